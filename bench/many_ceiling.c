@@ -1,10 +1,10 @@
 /*
- * A server that sends from memory, of which bench/many takes the speed as a ceiling: epoll, one thread, at most 64 KiB a call, as
- * a connection's queue of flashd holds.
+ * A server that sends from memory, whose speed bench/many uses as an upper bound. It has one thread, uses epoll, and sends at most
+ * 64 KiB per call, which is the capacity of a connection's queue in flashd.
  *
  *     many_ceiling LENGTH..
  *
- * The response to GET /LENGTH.bin has LENGTH bytes. It prints its port.
+ * The response to GET /LENGTH.bin has a body of LENGTH bytes. The server prints its port.
  */
 #define _GNU_SOURCE
 #include <arpa/inet.h>
@@ -59,8 +59,8 @@ static void end(struct client *it) {
     free(it);
 }
 
-/* Sends what its socket takes of the response. Whether the client is still there. */
-static int go_on(struct client *it) {
+/* Sends as many bytes of the response as the socket takes. Returns whether the client is still connected. */
+static int send_response(struct client *it) {
     while (it->answer) {
         long left = it->answer->length - it->sent;
         long sent = send(it->fd, it->answer->bytes + it->sent, left < PIECE ? left : PIECE, MSG_NOSIGNAL | MSG_DONTWAIT);
@@ -92,7 +92,7 @@ static void take(struct client *it) {
     it->answer = answer_to(it->request);
     it->filled = it->sent = 0;
     if (it->answer)
-        go_on(it);
+        send_response(it);
     else
         end(it);
 }
@@ -129,7 +129,7 @@ int main(int count, char **words) {
             int fd = events[at].data.fd;
             if (fd == listener)
                 admit(listener);
-            else if (clients[fd] && (!clients[fd]->answer || go_on(clients[fd])) && events[at].events & (EPOLLIN | EPOLLHUP))
+            else if (clients[fd] && (!clients[fd]->answer || send_response(clients[fd])) && events[at].events & (EPOLLIN | EPOLLHUP))
                 take(clients[fd]);
         }
     }

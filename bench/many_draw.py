@@ -1,4 +1,4 @@
-"""Draws what bench/many measured, which is JSON on standard input, as SVG.
+"""Draws the results of bench/many, which are JSON on standard input, as SVG.
 
     many_draw.py FILE
 """
@@ -14,7 +14,7 @@ MET, MISSED = "#0072b2", "#d55e00"
 
 
 def draw(axes, judgements, what, title):
-    """One bar per row, with its spread, and a mark at what is wanted."""
+    """Draws one bar per row, with its spread, and a mark at its goal."""
     for place, it in enumerate(judgements):
         values, wanted = it[what], it[f"wanted_{what}"]
         if values is None:

@@ -1,13 +1,13 @@
 /*
- * Requests for one file from many connections of one thread, and what they cost the server in a window of time.
+ * Requests one file on many connections, from one thread, and measures the cost for the server in a window of time.
  *
  *     many_load PORT PATH PID SECONDS ACTIVE IDLE PERIOD IS_EACH IS_READ
  *
  * Each of ACTIVE connections sends a request when it has the response to the one before, but at most one per PERIOD
  * microseconds. IDLE further connections send one request before the window begins, and no other. If IS_EACH is 1, each
- * request has a connection of its own. Bodies of responses are copied out of the kernel only if IS_READ is 1. It prints the responses
- * of the window, with fractions by the bytes of their bodies, the window's length in seconds, the processor time in seconds
- * that the process PID took in it, and that of this process. The status is 1 if a response is not a complete 200.
+ * request has a new connection. Bodies of responses are copied out of the kernel only if IS_READ is 1. The program prints the number
+ * of responses in the window (with fractions, by the bytes of their bodies), the length of the window in seconds, the processor time
+ * of the process PID in it in seconds, and that of this process. The status is 1 if a response is not a complete 200.
  */
 #define _GNU_SOURCE
 #include <arpa/inet.h>
@@ -89,7 +89,7 @@ static void ask(struct client *it) {
         fail("a request was not sent");
 }
 
-/* Sets the timer to the time at which the first of those that wait is due. */
+/* Sets the timer to the time at which the first waiting client is due. */
 static void set_timer(void) {
     struct itimerspec when = {0};
     double at = waiting[first_waiting]->due + period;
@@ -119,7 +119,7 @@ static void ask_those_due(void) {
         set_timer();
 }
 
-/* A response has come. Idle clients do not ask again. */
+/* Handles a complete response. Idle clients send no further request. */
 static void has_come(struct client *it) {
     responses++;
     if (it >= clients + active)
@@ -135,7 +135,7 @@ static void has_come(struct client *it) {
     }
 }
 
-/* Reads a part of the head, with what of the body comes with it. */
+/* Reads a part of the head, with the bytes of the body that arrive together with it. */
 static void take_head(struct client *it) {
     long got = recv(it->fd, it->head + it->filled, HEAD_BYTES - 1 - it->filled, 0);
     if (got <= 0)

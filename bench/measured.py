@@ -1,4 +1,4 @@
-"""Instructions and allocations of a program, counted by valgrind; those of iolite on a script, and the processor time that it takes."""
+"""Counts instructions and allocations of a program by valgrind, also of iolite on a script, and measures its processor time."""
 import os
 import re
 import resource
@@ -20,16 +20,17 @@ def _counted(tool, pattern, words):
 
 
 def instructions_of(words):
-    """The instructions of a program that is run by these words."""
+    """Returns the instructions of a command."""
     return _counted(["--tool=callgrind", "--callgrind-out-file=/dev/null"], r"Collected : (\d+)", words)
 
 
 def allocations_of(words):
-    """Its allocations."""
+    """Returns the allocations of a command."""
     return _counted(["--tool=memcheck"], r"total heap usage: ([\d,]+) allocs", words)
 
 
 def instructions(script, refusals=0):
+    """Returns the instructions of iolite on a script, which has to have this number of refusals."""
     with tempfile.NamedTemporaryFile("w") as given:
         given.write(script)
         given.flush()
@@ -37,7 +38,7 @@ def instructions(script, refusals=0):
             words = ["valgrind", "--tool=callgrind", "--callgrind-out-file=/dev/null", PROGRAM, "replay"]
             ran = subprocess.run(words, stdin=lines, capture_output=True, text=True, check=True)
     if ran.stdout.count("refused") != refusals:
-        sys.exit("a round was refused, or was not")
+        sys.exit("the number of refused rounds is not the expected one")
     return int(re.search(r"Collected : (\d+)", ran.stderr)[1])
 
 
@@ -47,7 +48,7 @@ def used():
 
 
 def seconds(script, tries=5):
-    """The least processor time of several runs."""
+    """Returns the least processor time of several runs of iolite on a script."""
     took = []
     with tempfile.TemporaryFile("w+") as lines:
         lines.write(script)
@@ -60,22 +61,22 @@ def seconds(script, tries=5):
 
 
 def a_round(head, rounds, count, refusals=0):
-    """The price of one of so many rounds after a head, which drops out. So many lines of the rounds are refused."""
+    """Returns the cost of one of `count` rounds after a head, whose cost is subtracted. `refusals` lines of the rounds are refused."""
     return (instructions(head + rounds, refusals) - instructions(head, 0)) / count
 
 
-def beside(few, many, calls, count, limit, refused=()):
-    """Prints the price of each call after the head `few` and after the head `many`: whether a ratio is above the limit.
+def compare(few, many, calls, count, limit, refused=()):
+    """Prints the cost of each call after the head `few` and after the head `many`. Returns whether a ratio is above the limit.
 
-    Each call has a name, its rounds after `few` and its rounds after `many`, so many of both. In the rounds of the names in
-    `refused` one line of each is refused.
+    Each call has a name, its rounds after `few` and its rounds after `many`, `count` of both. For the names in `refused`, one line
+    of each round is refused.
     """
     worst = 0.0
-    print(f"instructions a round, with its lines        few      many   ratio (at most {limit})")
-    for name, beside_few, beside_many in calls:
+    print(f"instructions per round, with its lines      few      many   ratio (at most {limit})")
+    for name, after_few, after_many in calls:
         refusals = count if name in refused else 0
-        low = a_round(few, beside_few, count, refusals)
-        high = a_round(many, beside_many, count, refusals)
+        low = a_round(few, after_few, count, refusals)
+        high = a_round(many, after_many, count, refusals)
         worst = max(worst, high / low)
         print(f"{name:40} {low:9.0f} {high:9.0f} {high / low:7.2f}", flush=True)
     return worst > limit

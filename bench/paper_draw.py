@@ -1,7 +1,7 @@
 #!/usr/bin/python3
-"""Draws charts as SVG by matplotlib, that of the distribution's package. `bench/paper` gives it their descriptions as JSON on standard
-input: a list of objects with `path`, `kind` (`lines` or `bars`), `title`, `across`, `up`, `places`, and `series`, which has for each
-name a list with a spread (least, median, greatest) or nothing for each place.
+"""Draws charts as SVG by the distribution's matplotlib. `bench/paper` passes their descriptions as JSON on standard input: a list of
+objects with `path`, `kind` (`lines` or `bars`), `title`, `across`, `up`, `places`, and `series`, which has for each name a list with
+a spread (least, median, greatest) or null for each place.
 """
 import json
 import os
@@ -21,19 +21,19 @@ STYLE = {
 
 
 def errors_of(values):
-    """The distances of the medians to the least and the greatest values."""
+    """Returns the distances of the medians to the least and the greatest values."""
     return [[it[1] - it[0] for it in values], [it[2] - it[1] for it in values]]
 
 
 def add_lines(axes, number, name, values):
-    """A line through the medians, each with its spread. The places are evenly spaced."""
+    """Draws a line through the medians, each with its spread. The places are evenly spaced."""
     at = [n for n, it in enumerate(values) if it]
     values = [it for it in values if it]
     axes.errorbar(at, [it[1] for it in values], yerr=errors_of(values), label=name, marker=MARKS[number], markersize=5, capsize=2)
 
 
 def add_bars(axes, number, name, values, count):
-    """A bar for each median, with its spread."""
+    """Draws a bar for each median, with its spread."""
     wide = 0.8 / count
     at = [n + wide * (number - (count - 1) / 2) for n, it in enumerate(values) if it]
     values = [it for it in values if it]

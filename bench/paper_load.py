@@ -1,4 +1,4 @@
-"""Servers under load: programs that serve a folder or a file, and clients that ask them."""
+"""Servers under load: programs that serve a folder or a file, and clients that send requests to them."""
 import contextlib
 import os
 import re
@@ -13,17 +13,17 @@ from measured import ROOT
 
 
 def program_of(crate):
-    """The program of a crate, or the one that the environment names in its place."""
+    """Returns the program of a crate, or the one that the environment names in its place."""
     return os.environ.get(crate.upper(), f"{ROOT}/crates/{crate}/out/{crate}")
 
 
 SPEED, SERVER, FLASHD = map(program_of, ("bench_paper", "bench_paper_server", "flashd"))
-PYTHON = "/usr/bin/python3"  # the distribution's, which has the packages of the distribution
+PYTHON = "/usr/bin/python3"  # the Python of the distribution, which has its packages
 PACKAGES = {"nginx": "nginx-light", "wrk": "wrk", "valgrind": "valgrind"}
 CLIENTS = 40
 FOREVER = 1_000_000_000  # clients
-SEGMENT = 1_460  # the bytes of a slow client's segments at most: those of Ethernet
-SLOW_BYTES, SLOW_PAUSE = 1_024, 0.25  # what a slow client reads at once, and the seconds before it reads again
+SEGMENT = 1_460  # the most bytes of a slow client's segments, as on Ethernet
+SLOW_BYTES, SLOW_PAUSE = 1_024, 0.25  # the bytes that a slow client reads at once, and the seconds before the next read
 CONFIG = """daemon off;
 master_process off;
 pid %(top)s/nginx.pid;
@@ -43,7 +43,7 @@ http {
     server { listen 127.0.0.1:%(port)d backlog=4096; root %(site)s; }
 }
 """
-# Requests of a trace by wrk, in their order, on whichever connection is next.
+# A script for wrk: the requests of a trace, in their order, each on the next free connection.
 TRACE = """local paths = {%s}
 local at = 0
 function request()
@@ -54,7 +54,7 @@ end
 
 
 def can_draw():
-    """Whether the pictures can be drawn."""
+    """Returns whether the pictures can be drawn."""
     words = [PYTHON, "-c", "import matplotlib"]
     return os.path.isfile(PYTHON) and subprocess.run(words, capture_output=True, check=False).returncode == 0
 
@@ -65,7 +65,7 @@ def missing_packages():
 
 
 def install():
-    """Installs the other programs, if they are missing, and says which ones cannot be installed."""
+    """Installs the other programs if they are missing, and prints which ones cannot be installed."""
     if missing := missing_packages():
         env = {**os.environ, "DEBIAN_FRONTEND": "noninteractive"}
         for words in (["update"], ["install", "-y", "--no-install-recommends", *missing]):
@@ -83,14 +83,14 @@ def free_port():
 
 
 class Server:
-    """A server that runs."""
+    """A running server."""
 
     def __init__(self, words, port=None):
         self.process = subprocess.Popen(words, stdout=subprocess.PIPE, stderr=subprocess.DEVNULL)
-        self.port = port or self.told_port()
+        self.port = port or self.announced_port()
         self.wait()
 
-    def told_port(self):
+    def announced_port(self):
         line = self.process.stdout.readline().decode()
         found = re.search(r":(\d+)/", line)
         if not found:
@@ -108,7 +108,7 @@ class Server:
         return f"http://127.0.0.1:{self.port}/{name}"
 
     def memory(self):
-        """The KiB of the process in memory."""
+        """Returns the resident memory of the process in KiB."""
         with open(f"/proc/{self.process.pid}/status", encoding="ascii") as lines:
             return next(int(line.split()[1]) for line in lines if line.startswith("VmRSS"))
 
@@ -126,7 +126,7 @@ def flashd(site):
 
 
 def files_server(how, chunks, lengths):
-    """The measured server of files, by reference or by copying."""
+    """Starts the measured server of files, by reference or by copying."""
     return Server([SERVER, "serve", how, str(FOREVER), str(chunks), *map(str, lengths)])
 
 
@@ -138,7 +138,7 @@ def nginx(top, site):
 
 
 def read_response(client):
-    """The length of one response."""
+    """Receives one response, and returns the length of its body."""
     answer = b""
     while b"\r\n\r\n" not in answer:
         more = client.recv(65_536)
@@ -159,7 +159,7 @@ def read_response(client):
 
 
 def ask(port, paths, is_new):
-    """Requests one after another, on one connection or on one each: the lengths of the responses."""
+    """Sends requests one after another, all on one connection or each on a new one. Returns the lengths of the responses."""
     last = "Connection: close\r\n" if is_new else ""
     client, lengths = None, []
     for path in paths:
@@ -175,20 +175,21 @@ def ask(port, paths, is_new):
 
 
 class Load:
-    """How servers are loaded: by wrk for a second, or by a few requests of this script, which tests the form only."""
+    """The load on a server: wrk for a second, or a few requests of this script, which only test the form."""
 
     def __init__(self, is_quick, top):
         self.is_quick, self.top = is_quick, top
 
     def rate(self, server, path, is_new=False, clients=CLIENTS, seconds=1):
-        """The requests per second."""
+        """Returns the requests per second."""
         if self.is_quick:
             return self.quick_rate(server, [path] * 5, is_new)
         words = ["wrk", "-t1", f"-c{clients}", f"-d{seconds}s", "--timeout", "10"]
         return self.by_wrk([*words, *(["-H", "Connection: close"] if is_new else []), server.url(path)])
 
     def trace_rate(self, server, paths):
-        """The requests of a trace per second. A response other than 200, as 503 while a full cache has no page for a file, does not count."""
+        """Returns the requests of a trace per second. A response other than 200 does not count, such as 503 if a full cache has no page
+        for a file."""
         if self.is_quick:
             return self.quick_rate(server, paths[:5], False)
         script = f"{self.top}/trace.lua"
@@ -204,22 +205,22 @@ class Load:
 
     @staticmethod
     def by_wrk(words, may_refuse=False):
-        said = subprocess.run(words, capture_output=True, text=True, check=True).stdout
-        refused = re.search(r"Non-2xx or 3xx responses: (\d+)", said)
+        output = subprocess.run(words, capture_output=True, text=True, check=True).stdout
+        refused = re.search(r"Non-2xx or 3xx responses: (\d+)", output)
         if refused and not may_refuse:
-            raise RuntimeError(said)
-        if errors := re.search(r"Socket errors: .*", said):
+            raise RuntimeError(output)
+        if errors := re.search(r"Socket errors: .*", output):
             print(f"paper: wrk: {errors[0]}", flush=True)
-        rate = float(re.search(r"Requests/sec: +([\d.]+)", said)[1])
+        rate = float(re.search(r"Requests/sec: +([\d.]+)", output)[1])
         if not refused:
             return rate
-        count = int(re.search(r"(\d+) requests in", said)[1])
+        count = int(re.search(r"(\d+) requests in", output)[1])
         print(f"paper: {refused[1]} of {count} responses were refused", flush=True)
         return rate * (count - int(refused[1])) / count
 
 
 class SlowClients:
-    """Clients that ask for a file and read it slowly, in a thread. `cut` is the number of those whose connection has ended."""
+    """Clients that request a file and read it slowly, in a thread. `cut` is the number of those whose connection has ended."""
 
     def __init__(self, port, path, count):
         self.cut = 0
@@ -246,7 +247,7 @@ class SlowClients:
 
     @staticmethod
     def reads(client):
-        """Reads some bytes, if there are any: whether the connection is still there."""
+        """Reads some bytes, if there are any. Returns whether the connection is still open."""
         try:
             return bool(client.recv(SLOW_BYTES))
         except BlockingIOError:

@@ -1,4 +1,4 @@
-"""Traces of whole reads of files, and caches that hold some of the files: GreedyDual-Size, LRU, and bounds of the optimum."""
+"""Traces of reads of whole files, and simulated caches of some of the files: GreedyDual-Size, LRU, and bounds of the optimum."""
 import bisect
 import heapq
 import itertools
@@ -7,7 +7,7 @@ import random
 
 PAGE = 4096
 CHUNK_PAGES = 16
-SCALE = 1 << 24  # the height of a file of one byte above those that were evicted
+SCALE = 1 << 24  # the height of a file of one byte above L
 
 
 def pages_of(length):
@@ -15,7 +15,7 @@ def pages_of(length):
 
 
 def scaled(raw, total):
-    """Lengths in these proportions, each from 128 bytes to 1 MiB, with about this sum."""
+    """Returns lengths in these proportions, each from 128 bytes to 1 MiB, with about this sum."""
     factor = total / sum(raw)
     for _ in range(20):
         lengths = [min(max(round(it * factor), 128), 1 << 20) for it in raw]
@@ -47,7 +47,7 @@ class Trace:
 
 
 def greedy_dual_size(trace, pages):
-    """The hits of the rule that docs/RULES.md states, by places in the order: the cost of each file is the same."""
+    """Returns the hits of the rule in docs/RULES.md, as indices of the order. The cost of each file is the same."""
     height, heap, free, low, hits = {}, [], pages, 0, []
     for place, file in enumerate(trace.order):
         length = trace.lengths[file]
@@ -68,6 +68,7 @@ def greedy_dual_size(trace, pages):
 
 
 def least_recently_used(trace, pages):
+    """Returns the hits of LRU, as indices of the order."""
     kept, free, hits = {}, pages, []
     for place, file in enumerate(trace.order):
         if file in kept:
@@ -84,7 +85,7 @@ def least_recently_used(trace, pages):
 
 
 def next_uses(order):
-    """The place of the next read of the same file, for each place."""
+    """Returns for each index of the order the index of the next read of the same file."""
     following, after = {}, [math.inf] * len(order)
     for place in range(len(order) - 1, -1, -1):
         after[place] = following.get(order[place], math.inf)
@@ -93,7 +94,8 @@ def next_uses(order):
 
 
 def belady_by_size(trace, pages):
-    """A cache that knows the future, and evicts the file of the most pages times the time to its next read."""
+    """Returns the hits of a cache that knows the future. It evicts the file with the largest product of pages and time to its next
+    read."""
     after, kept, free, hits = next_uses(trace.order), {}, pages, []
     for place, file in enumerate(trace.order):
         if file in kept:
@@ -101,7 +103,7 @@ def belady_by_size(trace, pages):
         else:
             need = pages_of(trace.lengths[file])
             if after[place] == math.inf:
-                continue  # it would never be a hit
+                continue  # it is not read again
             while free < need:
                 victim = max(kept, key=lambda it: pages_of(trace.lengths[it]) * (kept[it] - place))
                 if pages_of(trace.lengths[victim]) * (kept[victim] - place) < need * (after[place] - place):
@@ -119,8 +121,8 @@ def belady_by_size(trace, pages):
 
 
 def most_hits(trace, pages):
-    """More hits than any cache has: the cheapest intervals between reads of a file, whose pages times their lengths fit the
-    cache on average (PFOO, Berger and others 2018)."""
+    """Returns an upper bound of the hits of any cache: the number of the cheapest intervals between reads of a file, whose products of
+    pages and length fit the cache on average (PFOO, Berger and others 2018)."""
     after = next_uses(trace.order)
     costs = sorted(
         (next_place - place) * pages_of(trace.lengths[trace.order[place]])

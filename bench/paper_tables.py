@@ -5,32 +5,32 @@ MISSING = "not installed"
 
 
 def spread(values):
-    """The least, the median and the greatest of some values; nothing, if there are none."""
+    """Returns the least, the median and the greatest of some values, or None if there are no values."""
     return (min(values), statistics.median(values), max(values)) if values else None
 
 
 def ratios(above, below):
-    """The spread of ratios within rounds."""
+    """Returns the spread of the ratios of each round."""
     return spread([one / other for one, other in zip(above, below)]) if above and below else None
 
 
 def plain(value):
-    """A figure of three digits at most, or a whole number."""
+    """Returns a figure with at most three digits, or a whole number."""
     return f"{value:,.0f}" if value >= 100 else f"{value:.3g}"
 
 
 def text_of(it):
-    """A median with its least and greatest value."""
+    """Returns a median with its least and greatest value, as text."""
     return MISSING if it is None else f"{plain(it[1])} ({plain(it[0])} to {plain(it[2])})"
 
 
 def times_of(it):
-    """A ratio with its spread."""
+    """Returns a ratio with its spread, as text."""
     return MISSING if it is None else f"{it[1]:.2f} ({it[0]:.2f} to {it[2]:.2f})"
 
 
 def count_of(value):
-    """A number of instructions."""
+    """Returns a number of instructions, as text."""
     return "not counted" if value is None else f"{value:,.0f}"
 
 
@@ -39,13 +39,13 @@ def size_of(length):
 
 
 def table(heads, rows):
-    """A table of Markdown."""
+    """Returns a table in Markdown."""
     lines = ["| " + " | ".join(heads) + " |", "|" + "---|" * len(heads)]
     return "\n".join(lines + ["| " + " | ".join(row) + " |" for row in rows])
 
 
 def put_between(text, name, block):
-    """The text with a block between the marks of this name."""
+    """Returns the text with a block between the marks of this name."""
     first, last = f"<!-- made by bench/paper: {name} -->\n", "<!-- end -->"
     before, mark, rest = text.partition(first)
     if not mark or last not in rest:

@@ -1,11 +1,11 @@
-"""Draws a stream of requests from a seed, and from the same seed the same stream: docs/HTTP.md says what it is answered."""
+"""Draws a random stream of requests. Each seed gives one fixed stream. docs/HTTP.md defines the responses."""
 import random
 
 from model.http import WINDOW
 
 DRAWN = 25
-SIZES = (0, 1, 100, 4000, 4063, 4064, 4065, 4096)  # bytes of a piece of output: a worker's page holds 4,064 of text
-MOST_TEXT = 32_000  # bytes of the drawn lines of a script, which may have 32,768
+SIZES = (0, 1, 100, 4000, 4063, 4064, 4065, 4096)  # bytes of a piece of output; a worker's page holds 4,064 bytes of text
+MOST_TEXT = 32_000  # the most bytes of a script's drawn lines; a script may have 32,768
 FILES = {
     "index.html": b"hi\n", "empty.txt": b"", "f.txt": b"0123456789" * 10, "a b.css": b"a{}\n", "\u00fc.js": b"1\n",
     "large.bin": bytes(range(251)) * 280, "%41.json": b"{}", "x.png": b"\x89PNG", "y.jpg": b"\xff\xd8",
@@ -31,11 +31,11 @@ BAD_FIELDS = (
     ["X: a\x01"], ["(X): a"], ["X"], *([f"X{at}: a" for at in range(count)] for count in range(60, 66)),
 )
 PLACES = (0, 1, 5, 99, 100, 70_279, 70_280, 10**14)
-RAW = {*range(0x21, 0x7F)} - {*b"#<>?`%"}  # bytes that may stand in a path
+RAW = {*range(0x21, 0x7F)} - {*b"#<>?`%"}  # bytes that a path may contain unescaped
 
 
 def drawn_script(chance):
-    """A script of some lines, or of many, whose pieces of output have any size."""
+    """Returns a random script. Its pieces of output have various sizes."""
     names = [*FILES, *SCRIPTS, "none"]
     lines = {
         "emit": lambda: b"emit " + b"z" * max(0, chance.choice(SIZES) - 1),
@@ -54,6 +54,7 @@ def drawn_script(chance):
 
 
 def drawn_scripts():
+    """Returns the random scripts of the site by name. They are the same in each run."""
     chance = random.Random(0)
     return {f"{number}.cgi": drawn_script(chance) for number in range(DRAWN)}
 
@@ -62,7 +63,7 @@ SITE = {**FILES, **SCRIPTS, **drawn_scripts()}
 
 
 class Stream:
-    """Draws a stream for a site."""
+    """Draws a random stream of requests to a site."""
 
     def __init__(self, seed, site):
         self.chance, self.site = random.Random(seed), site
@@ -111,20 +112,21 @@ class Stream:
         return self.changed(text.encode("latin-1" if self.chance.random() < 0.1 else "utf-8"))
 
     def changed(self, text):
-        """With a byte changed, rarely."""
+        """Returns the text, rarely with one byte changed, inserted or removed."""
         at, byte = self.chance.randrange(len(text)), bytes([self.chance.choice((0, 9, 10, 13, 32, 58, 127, 195, 65))])
         if self.chance.random() < 0.9 or b"//" in text:
             return text
         return text[:at] + self.chance.choice((b"", byte)) + text[at + self.chance.choice((0, 1)):]
 
     def whole(self):
+        """Returns the whole stream: some requests, an oversized head, or a stream that is cut off."""
         if self.chance.random() < 0.03:
             return (b"GET / HTTP/1.1\r\nHost: a\r\nX: " + b"x" * WINDOW)[:WINDOW + self.chance.randint(-2, 2)]
         stream = b"".join(self.request() for _ in range(self.chance.choice((1, 1, 2, 3, 6))))
         return stream[:self.chance.randrange(len(stream))] if self.chance.random() < 0.1 else stream
 
     def pieces(self, stream):
-        """Fewer than what the server takes and drops after an answer that closes."""
+        """Splits a stream into pieces. There are few enough that the server still reads them after a response that closes."""
         most = max(self.chance.choice((1, 7, 100, 5000, len(stream) + 1)), len(stream) // 50)
         while stream:
             count = self.chance.randint(1, most)

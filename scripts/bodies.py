@@ -1,4 +1,4 @@
-"""Which function's body a text of a crate stands in, by the layout of `rt fmt`."""
+"""Finds the function whose body contains a given text of a crate. It relies on the layout that `rt fmt` writes."""
 import os
 import re
 
@@ -8,11 +8,11 @@ FUNCTION = re.compile(r"^(?P<indent> *)(?:pub(?:\(crate\))? )?(?:const )?fn (?P<
 BLOCK = re.compile(
     r"^impl(?:<(?P<given>[^{]*?)>)? (?:(?P<trait>\w+)(?:<[^{]*>)? for )?(?P<type>\w+)(?:<(?P<of>[^{]*)>)?"
 )
-ENDS = re.compile(r"^[)\w].*\{$")  # a line that ends a function's head, where its arguments or clauses take several
+ENDS = re.compile(r"^[)\w].*\{$")  # the last line of a function's head, if the head has several lines
 
 
 def head_ends(lines, at, indent):
-    """The line in which the body of the function that begins at a line begins, or nothing for one without a body."""
+    """Returns the line number at which the body begins, for the function that begins at line `at`; None if it has no body."""
     for number in range(at, len(lines)):
         line = lines[number]
         own = line.startswith(indent) and not line[len(indent) :].startswith(" ")
@@ -24,14 +24,14 @@ def head_ends(lines, at, indent):
 
 
 def owner_of(block):
-    """The type that an impl is for, and its trait, as the prover writes them: with the arguments, if one is no parameter."""
+    """Returns the type and the trait of an impl block as the prover writes them: the type with its arguments unless all are parameters."""
     given = re.findall(r"(?:^|, )(?:const )?(\w+)", re.sub(r"<[^<>]*>", "", block["given"] or ""))
     of = [] if block["trait"] else re.findall(r"(?<!')\b\w+", block["of"] or "")
     return "+".join([block["type"], *(of if set(of) - set(given) else [])]) + f"{block['trait'] or ''}::"
 
 
 def bodies(text):
-    """Each body: the lines between which it stands, and its function, below the type that has it and the trait."""
+    """Yields for each body its first and last line numbers and the function's name, qualified by its type and trait."""
     lines, owner = text.split("\n"), ""
     for at, line in enumerate(lines):
         block, function = BLOCK.match(line), FUNCTION.match(line)
@@ -47,7 +47,7 @@ def bodies(text):
 
 
 def function_at(room, file, old):
-    """The function in whose body a text of a file stands, by the end of its name in a check, or nothing."""
+    """Returns the function whose body contains the text `old` of a file, as a suffix of its name in a check; else None."""
     if not file.startswith("src/") or not file.endswith(".rt") or not os.path.isfile(f"{room}/{file}"):
         return None
     text = tree.read(f"{room}/{file}")
@@ -61,13 +61,13 @@ def function_at(room, file, old):
 
 
 def functions_of(room, edit):
-    """The functions that an edit changes, if it changes nothing but their bodies."""
+    """Returns the functions that an edit changes; the empty set if it also changes text outside of bodies."""
     found = {function_at(room, file, old) for file, old, _ in edit.changes}
     return frozenset() if None in found else frozenset(found)
 
 
 def in_batches(functions, most):
-    """The edits that change the bodies of these functions, at most so many at a time, no two in the same function."""
+    """Groups edits into batches of at most `most`. No two edits of a batch change the same function."""
     found = []
     for edit, own in functions.items():
         fits = (it for it in found if len(it) < most and not any(own & functions[other] for other in it))

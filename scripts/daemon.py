@@ -1,4 +1,4 @@
-"""Runs of `flashd` over folders that are made for them. FLASHD=PROGRAM in the environment tries another program."""
+"""Runs `flashd` over temporary folders. FLASHD=PROGRAM in the environment selects another program."""
 import os
 import resource
 import signal
@@ -12,18 +12,19 @@ SECONDS = 60
 
 
 def build():
-    """Builds the program, unless another one is tried."""
+    """Builds the program, unless the environment names another one."""
     if "FLASHD" not in os.environ:
         subprocess.run([f"{tree.ROOT}/scripts/flashd", "--version"], stdout=subprocess.DEVNULL, check=True)
 
 
 def allow_many_descriptors():
-    """This process and the servers that it starts may have as many open descriptors as the system allows."""
+    """Raises the limit of open descriptors to the system's maximum, for this process and the servers that it starts."""
     _, most = resource.getrlimit(resource.RLIMIT_NOFILE)
     resource.setrlimit(resource.RLIMIT_NOFILE, (most, most))
 
 
 def write_site(root, files):
+    """Writes files into a folder, with the folders that they need."""
     for name, data in files.items():
         path = f"{root}/{name}"
         os.makedirs(os.path.dirname(path), exist_ok=True)
@@ -32,7 +33,7 @@ def write_site(root, files):
 
 
 class Daemon:
-    """A server of a folder, on a port of 127.0.0.1 that is free."""
+    """A server of a folder, on a free port of 127.0.0.1."""
 
     def __init__(self, root, *words, descriptors=None):
         limit = None
@@ -56,15 +57,16 @@ class Daemon:
         return self.process.poll() is None
 
     def ended(self):
-        """The status with which it ends by itself, and what it printed after the first line."""
+        """Waits until the server ends, and returns its status, its output after the first line, and its errors."""
         output, errors = self.process.communicate(timeout=SECONDS)
         return self.process.returncode, output, errors
 
     def memory(self):
-        """The KiB that it has in memory."""
+        """Returns the resident memory of the server in KiB."""
         status = tree.read(f"/proc/{self.process.pid}/status").splitlines()
         return next(int(line.split()[1]) for line in status if line.startswith("VmRSS"))
 
     def processor_seconds(self):
+        """Returns the processor time of the server so far, in seconds."""
         fields = tree.read(f"/proc/{self.process.pid}/stat").rpartition(")")[2].split()
         return (int(fields[11]) + int(fields[12])) / os.sysconf("SC_CLK_TCK")

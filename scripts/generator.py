@@ -1,7 +1,7 @@
-"""Makes a script from a seed, and from the same seed the same script.
+"""Draws a random script. Each seed gives one fixed script.
 
-The model (model/) runs along: a call that it would refuse is drawn again, mostly, so that most calls are accepted;
-one that it would refuse for a reason that the script has not met yet is kept more often.
+The generator executes each call on the model (model/). If the model refuses a call, the generator mostly draws another one, so
+that most calls succeed. It keeps a refused call more often if the script has not had this refusal yet.
 """
 import random
 
@@ -11,9 +11,9 @@ from model.texts import encode
 from themes import THEMES
 
 TRIES = 8
-WILD, ODD = 0.05, 0.4  # how often a word of a call is drawn from what is not there, and how often in an odd line
-ODD_LINES = 0.04
-WORDS = {  # what stands behind each name, in order
+WILD, ODD = 0.05, 0.4  # the probability that an argument does not exist, in a usual line and in an odd line
+ODD_LINES = 0.04  # the probability of an odd line
+WORDS = {  # the arguments of each call, in order
     "pool_create": ("chunks", "domains"), "pool_close": ("pool",), "pool_admit": ("pool", "domain"),
     "set_pool": ("pool",), "agg_make": ("text",), "agg_fill": ("times",), "agg_dup": ("agg",),
     "agg_cut": ("agg", "part"), "agg_split": ("agg", "place"), "agg_join": ("agg", "agg"),
@@ -29,7 +29,7 @@ def is_file(on):
     return isinstance(on, OpenFile)
 
 
-FITS = {  # the descriptors that are drawn for a call, mostly
+FITS = {  # the kind of descriptor that is mostly drawn for a call
     "seek": is_file, "length": is_file, "fsync": is_file,
     "iol_read": lambda on: on.reads, "read": lambda on: on.reads,
     "iol_write": lambda on: on.writes, "write": lambda on: on.writes,
@@ -37,18 +37,18 @@ FITS = {  # the descriptors that are drawn for a call, mostly
 
 
 def written(data):
-    """Bytes as a word of a script."""
+    """Returns bytes as a word of a script."""
     return encode(data).decode()
 
 
 class Words:
-    """Draws the words of calls, of what the machine has or, rarely, of what it has not."""
+    """Draws the arguments of calls: mostly from the objects of the machine, rarely of objects that do not exist."""
 
     def is_wild(self):
         return self.chance.random() < self.wildness
 
     def one_of(self, numbers, next_number):
-        """A number of those that are there, mostly of the last, or one that is not."""
+        """Returns one of these numbers, mostly one of the last, or rarely a number that does not exist."""
         numbers = list(numbers)
         if not numbers or self.is_wild():
             return self.chance.choice((0, next_number, next_number + 1, self.chance.randrange(next_number + 1)))
@@ -93,7 +93,7 @@ class Words:
         return number
 
     def place(self):
-        """A place in what is `of` so many bytes."""
+        """Returns an offset in an object of `self.of` bytes, or rarely one after its end."""
         if self.is_wild():
             return self.of + self.chance.choice((1, 2, 2**32 - 1 - self.of))
         return self.chance.choice((0, self.of, self.chance.randint(0, self.of), min(self.of, 4096)))
@@ -107,7 +107,7 @@ class Words:
         return self.chance.choice(counts)
 
     def text(self):
-        """A TEXT of so many bytes as the theme has them; a long one repeats its first."""
+        """Returns a TEXT whose length is one of the theme's. A long text repeats its first bytes."""
         low, high = self.chance.choice(self.theme.texts)
         count = self.chance.randint(low, high)
         most = 256 if count < 200 else 128
@@ -115,13 +115,13 @@ class Words:
         return "".join((first * (count // 40 + 1))[:count])
 
     def digits_or(self, byte):
-        """A byte of a TEXT: as it stands, or by its digits, large or small."""
+        """Returns a byte of a TEXT: unescaped, or by its hexadecimal digits in upper or lower case."""
         if 32 <= byte < 127 and byte != 37 and self.chance.random() < 0.8:
             return chr(byte)
         return f"%{byte:02X}" if self.chance.random() < 0.5 else f"%{byte:02x}"
 
     def times(self):
-        """A text, so many times over."""
+        """Returns a number of repetitions and a text."""
         pattern = self.chance.randbytes(self.chance.randint(1, 5))
         low, high = self.chance.choice(self.theme.fills)
         return f"{self.chance.randint(low, high) // len(pattern)} {written(pattern)}"
@@ -158,7 +158,7 @@ class Drawing(Words):
         self.lines.append(b"report")
 
     def line(self):
-        """A line, drawn again while the model refuses it, mostly. An odd one may be wrong for several reasons."""
+        """Returns a line. While the model refuses it, another line is mostly drawn. An odd line may be wrong for several reasons."""
         if self.chance.random() < ODD_LINES:
             self.wildness = ODD
             return self.drawn().encode()
@@ -187,13 +187,13 @@ class Drawing(Words):
         return " ".join([*words, *(str(getattr(self, word)()) for word in drawn)])
 
     def by(self, drawn):
-        """A caller, who has what these words are of, mostly."""
+        """Returns the domain of a call: mostly one that has aggregates and descriptors if the call needs them."""
         domains = self.machine.domains.items()
         able = [by for by, it in domains if (it.aggs or "agg" not in drawn) and (it.fds or "fd" not in drawn)]
         return self.chance.choice(able) if able and not self.is_wild() else self.domain()
 
     def take(self, line):
-        """Adds a line, and changes the machine as it does."""
+        """Adds a line to the script, and executes it on the machine."""
         self.lines.append(line)
         change = self.machine.step(line)[-1] if line != b"report" else None
         next(change or iter(()), None)
@@ -204,5 +204,5 @@ def theme_of(seed):
 
 
 def script(seed):
-    """The lines of the script of a seed."""
+    """Returns the lines of the script of a seed."""
     return Drawing(seed).lines

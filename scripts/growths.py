@@ -1,18 +1,18 @@
-"""Runs of the program, each with another growth of its memory refused (`refuse.c`)."""
+"""Runs the program repeatedly, each time with another growth of its memory refused (`refuse.c`)."""
 import os
 import subprocess
 
 import tree
 from replaying import Wrong, is_fault
 
-REFUSED = b"growth refused\n"  # what the shim tells
+REFUSED = b"growth refused\n"  # the shim's messages
 SPOILED = b"output spoiled\n"
-AHEAD = 32  # of a line that stands twice, reading takes so many growths more at most
-WAYS = ("ended", "refused", "spared")
+AHEAD = 32  # the most growths that reading takes more if a line is duplicated
+WAYS = ("ended", "refused", "unneeded")
 
 
 def build_shim(folder, name="refuse"):
-    """A library of scripts/ that is loaded into the program, built by the compiler of the kit."""
+    """Builds a library of scripts/ by the compiler of the kit, and returns its path. It is loaded into the program."""
     doc = subprocess.run(["rt", "doc"], capture_output=True, text=True, check=True).stdout.strip()
     clang = f"{os.path.dirname(doc)}/toolchain/bin/clang"
     flags = ["-shared", "-fPIC", "-O1", "-Wall", "-fuse-ld=lld", "-nostdlib"]
@@ -20,13 +20,13 @@ def build_shim(folder, name="refuse"):
     return f"{folder}/{name}.so"
 
 
-def is_want(answer, expected):
-    """Whether an answer, in place of the expected one, says that memory was wanted."""
+def is_shortage(answer, expected):
+    """Returns whether a reply differs from the expected one and reports a lack of memory."""
     return answer != expected and (answer == [b"refused Memory"] or is_fault(answer))
 
 
 class Sweep:
-    """The runs of a script, each with another growth refused. A check may look at each, too."""
+    """The runs of a script, each with another growth refused. `check`, if given, is called with the lines and output of each."""
 
     def __init__(self, name, script, shim, check=None):
         self.name, self.script, self.shim, self.check = name, script, shim, check
@@ -34,7 +34,7 @@ class Sweep:
         self.expected = script.answers(self.output)
         self.ends = script.ends(self.output)
         self.rests = {}
-        self.passed = {0}  # numbers of first events that are known not to come to the growth; none may do
+        self.passed = {0}  # numbers of events that, counted from the first, are known not to reach the refused growth
 
     def run(self, script, number):
         ended = script.run({"LD_PRELOAD": self.shim, "REFUSE": str(number)})
@@ -43,73 +43,73 @@ class Sweep:
         return ended
 
     def rest(self, event):
-        """The answers to the script without an event."""
+        """Returns the replies to the script without an event."""
         if event not in self.rests:
             script = self.script.without(event)
             self.rests[event] = script.answers(script.output())
         return self.rests[event]
 
     def check_retried(self, event, number):
-        """Checks the script in which the event stands twice, and the first is refused."""
+        """Checks the script in which the event occurs twice and the first one is refused."""
         script = self.script.doubled(event)
         for later in range(number, number + AHEAD):
             ended = self.run(script, later)
             if ended.returncode == 0:
                 answers = script.answers(ended.stdout)
-                if is_want(answers[event], self.expected[event]):
+                if is_shortage(answers[event], self.expected[event]):
                     if not script.agree(answers[:event] + answers[event + 1:], self.expected):
-                        raise Wrong("retried, it is answered otherwise")
+                        raise Wrong("the retried event changes the replies")
                     return
-        raise Wrong("where it stands twice, the first is not refused")
+        raise Wrong("if the event occurs twice, the first one is not refused")
 
     def check_refused(self, event, answers, number):
-        """Checks that an event that was refused changed nothing, and is answered where it is retried."""
+        """Checks that a refused event changed nothing, and succeeds if it is retried."""
         if not self.script.agree(answers[:event] + answers[event + 1:], self.rest(event)):
-            raise Wrong("other replies than without the refused event")
+            raise Wrong("the replies differ from those without the refused event")
         self.check_retried(event, number)
 
-    def comes_to(self, count, number):
-        """Whether that growth comes where only so many of the first events are there."""
+    def reaches(self, count, number):
+        """Returns whether the first `count` events reach the growth of this number."""
         return REFUSED in self.script.first(count).run({"LD_PRELOAD": self.shim, "REFUSE": str(number)}).stderr
 
     def check_ended(self, printed, number):
-        """Checks that just the answers to the lines before the one that came to the growth were printed."""
+        """Checks that exactly the replies to the lines before the refused growth were printed."""
         if not self.output.startswith(printed) or len(printed) not in self.ends:
-            raise Wrong("it ended, and printed what is no beginning of the answers, each whole")
+            raise Wrong("it ended, and its output is not a number of whole replies from the first")
         count = self.ends.index(len(printed))
-        if count not in self.passed and self.comes_to(count, number):
-            raise Wrong("it ended, and printed the answer of a line that came to the growth")
+        if count not in self.passed and self.reaches(count, number):
+            raise Wrong("it ended, and printed the reply to a line that reached the growth")
         self.passed.add(count)
-        if not self.comes_to(count + 1, number):
-            raise Wrong("it ended, and printed fewer answers than lines that did not come to the growth")
+        if not self.reaches(count + 1, number):
+            raise Wrong("it ended, and did not print the reply to a line that did not reach the growth")
 
     def check_spoiled(self, printed, number):
-        """Where the first writing fails, too, that is told in place of the growth: what was to be printed is not."""
+        """Checks the run whose first write fails, too: it prints nothing, and reports the failed write if it had output."""
         ended = self.script.run({"LD_PRELOAD": self.shim, "REFUSE": str(number), "SPOIL": "0"})
-        told = ended.stderr.replace(REFUSED, b"", 1).replace(SPOILED, b"", 1)
-        if (ended.returncode, ended.stdout, told) != (3, b"", b"fault: output\n" if printed else b"fault: memory\n"):
-            raise Wrong(f"with an output that fails, status {ended.returncode}, {ended.stdout!r}, {told!r}")
+        errors = ended.stderr.replace(REFUSED, b"", 1).replace(SPOILED, b"", 1)
+        if (ended.returncode, ended.stdout, errors) != (3, b"", b"fault: output\n" if printed else b"fault: memory\n"):
+            raise Wrong(f"with a failing output, status {ended.returncode}, {ended.stdout!r}, {errors!r}")
 
     def way(self, ended, number):
-        """How a run ended."""
-        told = ended.stderr.replace(REFUSED, b"", 1)
-        if ended.returncode == 3 and told == b"fault: memory\n":
+        """Checks how a run ended, and returns which of WAYS it was."""
+        errors = ended.stderr.replace(REFUSED, b"", 1)
+        if ended.returncode == 3 and errors == b"fault: memory\n":
             self.check_ended(ended.stdout, number)
             self.check_spoiled(ended.stdout, number)
             return "ended"
-        if ended.returncode != 0 or told:
-            raise Wrong(f"status {ended.returncode}, {told!r}")
+        if ended.returncode != 0 or errors:
+            raise Wrong(f"status {ended.returncode}, {errors!r}")
         answers = self.script.answers(ended.stdout)
         if answers == self.expected:
-            return "spared"
-        wants = [event for event, answer in enumerate(answers) if is_want(answer, self.expected[event])]
-        if not wants:
-            raise Wrong("other replies, and none says that memory was wanted")
-        self.check_refused(wants[0], answers, number)
+            return "unneeded"
+        shortages = [event for event, answer in enumerate(answers) if is_shortage(answer, self.expected[event])]
+        if not shortages:
+            raise Wrong("the replies differ, and none reports a lack of memory")
+        self.check_refused(shortages[0], answers, number)
         return "refused"
 
     def counts(self):
-        """Refuses one growth after another, until there is none to refuse: how often it ended in which way."""
+        """Refuses one growth after another, until there is no further growth. Returns the number of runs for each way."""
         counts = dict.fromkeys(WAYS, 0)
         number = 0
         while True:

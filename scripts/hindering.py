@@ -1,4 +1,4 @@
-"""Rows of the server, and all that may be answered to them where something is hindered (`refuse.c`)."""
+"""Rows of the server, and the possible results of a row if an injected failure occurs (`refuse.c`)."""
 import contextlib
 import os
 import socket
@@ -11,7 +11,7 @@ from growths import REFUSED
 from model import cgi, http
 from replaying import PROGRAM, Wrong
 
-FAILED, BROKEN, SPOILED = b"call failed\n", b"connection broken\n", b"output spoiled\n"  # what the shim tells
+FAILED, BROKEN, SPOILED = b"call failed\n", b"connection broken\n", b"output spoiled\n"  # the shim's messages
 INTERRUPTED = b"call interrupted\n"
 SECONDS = 60
 
@@ -37,12 +37,12 @@ class Site:
         return http.answer_to(stream, self.files)
 
 
-def asked(port, stream):
-    """What is answered to a stream that ends. Of a connection that breaks what came before counts."""
+def fetch(port, stream):
+    """Sends a stream, ends it, and returns the bytes received. If the connection breaks, these are the bytes before."""
     answer = b""
     with contextlib.suppress(ConnectionError), socket.create_connection(("127.0.0.1", port), SECONDS) as client:
         client.sendall(stream)
-        with contextlib.suppress(OSError):  # it may be closed already
+        with contextlib.suppress(OSError):  # the connection may be closed already
             client.shutdown(socket.SHUT_WR)
         while more := client.recv(65_536):
             answer += more
@@ -50,33 +50,34 @@ def asked(port, stream):
 
 
 class Row:
-    """Streams of requests to a server, each of a client, one after another."""
+    """Streams of requests to a server, one stream per client, one client after another."""
 
     def __init__(self, name, site, streams):
         self.name, self.site, self.streams = name, site, streams
 
     def run(self, extra):
-        """What is answered to each stream, the server's status, and what it told."""
+        """Runs a server and its clients. Returns the response to each stream, the server's status, and its errors."""
         words = [PROGRAM, "serve", "0", self.site.root, str(len(self.streams))]
         pipes = {"stdout": subprocess.PIPE, "stderr": subprocess.PIPE}
         with subprocess.Popen(words, env={**os.environ, **extra}, **pipes) as server:
             try:
                 line = server.stdout.readline()
                 port = int(line.removeprefix(b"listening ")) if line.endswith(b"\n") else None
-                answers = [asked(port, stream) if port else b"" for stream in self.streams]
+                answers = [fetch(port, stream) if port else b"" for stream in self.streams]
                 return answers, server.wait(SECONDS), server.stderr.read()
             finally:
                 server.kill()
 
     def files(self, at):
-        """The files from which a stream is answered."""
+        """Returns the files that determine the response to a stream."""
         return self.site.files
 
     def whole(self):
+        """Returns the responses without a failure."""
         return [http.answer_to(stream, self.files(at)) for at, stream in enumerate(self.streams)]
 
     def with_one(self, code, refusal):
-        """The answers, and all in which one call on a file is refused so, each with the word for it."""
+        """Yields the responses without a failure, and all with one refused call on a file, each with the word for it."""
         whole = self.whole()
         yield "whole", whole
         for at, stream in enumerate(self.streams):
@@ -88,14 +89,14 @@ class Row:
                     yield way, [*whole[:at], b"".join([*texts[:place], text, *texts[place + 1:]]), *whole[at + 1:]]
 
     def without_one(self):
-        """The answers from the site without one of its files, each with a word for that."""
+        """Yields the responses from the site without one of its files, each with a word for that."""
         for name in self.site.files:
             less = self.site.without(name)
             yield "not found", [less.answer(stream) for stream in self.streams]
 
 
 class Loop(Row):
-    """A path that `loop` asks for."""
+    """A request by `loop` for a path."""
 
     def __init__(self, name, site, path):
         stream = http.lined(f"GET {path} HTTP/1.1", "Host: 127.0.0.1", "Connection: close", "")
@@ -113,11 +114,11 @@ def may_read(name, files):
 
 
 def refused_once(head, files, code, refusal):
-    """The responses to a request where a call on its file, or on one that its script reads, is refused."""
-    asked = head.asked(files) if head else None
-    if asked is None or not may_read(asked[0], files):
+    """Yields the responses to a request if a call on its file, or on a file that its script reads, is refused."""
+    requested = head.requested(files) if head else None
+    if requested is None or not may_read(requested[0], files):
         return
-    name, query = asked
+    name, query = requested
     yield f"a {code}", head.refused(code)
     if name.endswith(".cgi") and not head.is_head:
         lines = cgi.lines_of(files[name]) or []
@@ -131,43 +132,43 @@ def way_among(answers, ways):
     return next((way for way, wanted in ways if wanted == answers), None)
 
 
-def way_of_growth(row, answers, status, told):
-    """How a run ended in which a growth was refused, or nothing where it may not end so."""
-    if (status, told) == (3, b"fault: memory\n"):
+def way_of_growth(row, answers, status, errors):
+    """Returns how a run with a refused growth ended, or None if this result is not allowed."""
+    if (status, errors) == (3, b"fault: memory\n"):
         whole = row.whole()
         until = ([*whole[:count], *[b""] * (len(whole) - count)] for count in range(len(whole)))
         return "ended" if answers in until else None
-    return way_among(answers, row.with_one(503, "[Memory]")) if (status, told) == (0, b"") else None
+    return way_among(answers, row.with_one(503, "[Memory]")) if (status, errors) == (0, b"") else None
 
 
-def way_of_call(row, answers, status, told):
-    """The same, of a call on the folder or on a file that failed."""
-    if (status, told) == (3, b"fault: folder\n"):
+def way_of_call(row, answers, status, errors):
+    """The same for a run with a failed call on the folder or on a file."""
+    if (status, errors) == (3, b"fault: folder\n"):
         return None if any(answers) else "ended"
     way = way_among(answers, row.with_one(500, "[Fault]")) or way_among(answers, row.without_one())
-    return way if (status, told) == (0, b"") else None
+    return way if (status, errors) == (0, b"") else None
 
 
-def way_of_break(row, answers, status, told):
-    """The same, where a connection broke."""
+def way_of_break(row, answers, status, errors):
+    """The same for a run with a broken connection."""
     cut = [(answer, whole) for answer, whole in zip(answers, row.whole(), strict=True) if answer != whole]
     is_begun = all(whole.startswith(answer) for answer, whole in cut)
     if isinstance(row, Loop):
-        return "cut off" if cut and is_begun and (status, told) == (3, b"fault: connect\n") else None
-    if len(cut) > 1 or not is_begun or (status, told) != (0, b""):
+        return "cut off" if cut and is_begun and (status, errors) == (3, b"fault: connect\n") else None
+    if len(cut) > 1 or not is_begun or (status, errors) != (0, b""):
         return None
     return "cut off" if cut else "whole"
 
 
-def way_of_interruption(row, answers, status, told):
-    """The same, where a signal interrupted a sending or receiving."""
-    return "whole" if (answers, status, told) == (row.whole(), 0, b"") else None
+def way_of_interruption(row, answers, status, errors):
+    """The same for a run in which a signal interrupted sending or receiving."""
+    return "whole" if (answers, status, errors) == (row.whole(), 0, b"") else None
 
 
-def way_of_spoil(row, answers, status, told):
-    """The same, where a writing to the output failed."""
+def way_of_spoil(row, answers, status, errors):
+    """The same for a run with a failed write to the output."""
     is_begun = row.whole()[0].startswith(answers[0]) if isinstance(row, Loop) else not any(answers)
-    return "spoiled" if is_begun and (status, told) == (3, b"fault: output\n") else None
+    return "spoiled" if is_begun and (status, errors) == (3, b"fault: output\n") else None
 
 
 WAYS = {
@@ -181,7 +182,7 @@ WAYS = {
 
 @dataclass(frozen=True)
 class Sweep:
-    """The runs of a row in an environment, in which one thing after another is hindered, those of some numbers."""
+    """The runs of a row in an environment. Each run has one injected failure, whose number is the next of `numbers`."""
 
     row: Row
     env: dict
@@ -190,7 +191,8 @@ class Sweep:
     ways = WAYS
 
     def run(self):
-        """Up to the first in which there is none left: how often it ended in which way, and what was otherwise, or nothing."""
+        """Runs up to the first run in which the failure does not occur. Returns the number of runs for each way, and a message
+        about the first unexpected result or None."""
         counts = Counter()
         for number in self.numbers:
             try:
@@ -201,16 +203,16 @@ class Sweep:
             if is_last:
                 return counts, None
             counts[way] += 1
-        return counts, "there are not as many numbers"
+        return counts, "all numbers were used, and the failure still occurs"
 
     def way(self, number):
-        """How a run ended, and whether nothing was hindered any more."""
+        """Runs the row with one failure. Returns how the run ended, and whether the failure did not occur."""
         word, mark, way_of = self.ways[self.what]
-        answers, status, told = self.row.run(self.env | {word: str(number)})
-        if mark in told:
-            way = way_of(self.row, answers, status, told.replace(mark, b"", 1))
+        answers, status, errors = self.row.run(self.env | {word: str(number)})
+        if mark in errors:
+            way = way_of(self.row, answers, status, errors.replace(mark, b"", 1))
         else:
-            way = "whole" if (answers, status, told) == (self.row.whole(), 0, b"") else None
+            way = "whole" if (answers, status, errors) == (self.row.whole(), 0, b"") else None
         if way is None:
-            raise Wrong(f"status {status}, {told!r}, answered {[answer[:300] for answer in answers]}")
-        return way, mark not in told
+            raise Wrong(f"status {status}, {errors!r}, answered {[answer[:300] for answer in answers]}")
+        return way, mark not in errors

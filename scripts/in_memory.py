@@ -1,4 +1,4 @@
-"""Rows over a site in memory (crates/test_worked_rows), and all that may be answered to them where something is hindered."""
+"""Rows over a site in memory (crates/test_worked_rows), and their possible results if an injected failure occurs."""
 import itertools
 import os
 import re
@@ -11,9 +11,9 @@ from hindering import FAILED, SECONDS, SPOILED, Row, Site, way_among
 from model.cgi import Private
 CRATE = f"{tree.ROOT}/crates/test_worked_rows"
 PROGRAM = f"{CRATE}/out/test_worked_rows"
-BEGIN = b"\n\n"  # what is printed before the site is made, and then
+BEGIN = b"\n\n"  # the program prints one line end before it makes the site, and one after it
 PAGE = 4096
-SITE, SERVED = "1", "2"  # so much of it is printed before the counting begins: LATE
+SITE, SERVED = "1", "2"  # values of LATE: growths are counted from the making of the site, or from the serving
 OVER, ROUGH = b"over\n", b"rough\n"
 BROKEN = 1  # status of a connection that has failed
 ENDINGS = {
@@ -23,12 +23,12 @@ BOTH = re.compile(rb"(.*)\nconnection 1, idle: true\n(.*)\nconnection 2, idle: t
 
 
 def build():
-    """Has the program proved and built, where it is not there, or a source is newer."""
+    """Proves and builds the program if it is missing or a source is newer."""
     tree.build_program("test_worked_rows", "borrowed", "0", "-", "1", "0", "1", "0")
 
 
 def words_of(files):
-    """The words that name files to the program, each by a text and how many times that stands there."""
+    """Yields the arguments that describe files to the program: each file is a text and its number of repetitions."""
     for name, data in files.items():
         page = data[:PAGE]
         count = len(data) // PAGE
@@ -37,9 +37,9 @@ def words_of(files):
 
 
 class Served(Row):
-    """A stream on one connection, which is served in place, from a site whose pools have a chunk each, or one so many."""
+    """A stream on one connection. Each pool of the site has one chunk, except the pool `site`, which has `chunks`."""
 
-    hindered = ("growths", "faults", "reads", "writes")
+    failures = ("growths", "faults", "reads", "writes")
     pieces = ("1", "4095")  # bytes moved at a time
     mode = "served"
 
@@ -49,8 +49,8 @@ class Served(Row):
         self.few = {"SHORT": few} if few else {}
 
     def sweeps(self, env):
-        """What is hindered, with its numbers."""
-        for what in self.hindered:
+        """Yields the sweeps of the row, one for each kind of failure."""
+        for what in self.failures:
             late = self.late if what == "growths" else SERVED
             numbers = itertools.count(1 if what == "faults" else 0)
             yield Sweep(self, env | self.few | {"LATE": late}, what, numbers)
@@ -65,17 +65,17 @@ class Served(Row):
         printed = ran.stdout.removeprefix(BEGIN)
         ending = next((ending for ending in ENDINGS if printed.endswith(ending)), b"")
         status, rough = ENDINGS[ending] if ending and ran.returncode == 0 else (ran.returncode or None, b"")
-        told = rough if "FAULT" in extra else b""
-        return self.answers(printed.removesuffix(ending)), status, ran.stderr + told
+        mark = rough if "FAULT" in extra else b""
+        return self.answers(printed.removesuffix(ending)), status, ran.stderr + mark
 
     def answers(self, printed):
         return [printed]
 
 
 class ByTurns(Served):
-    """A script and a file that are asked for at once. The file is written before the script reads it."""
+    """Requests for a script and a file at the same time. The file is written before the script reads it."""
 
-    hindered = ("growths", "faults")
+    failures = ("growths", "faults")
     mode = "turns"
 
     def __init__(self, *words, **how):
@@ -91,37 +91,39 @@ class ByTurns(Served):
 
 
 class Steps(Served):
-    """Steps on a connection whose reader gives a text so many times; reader and writer move so many bytes at once at most,
-    and fail at one of their calls. What each step answers."""
+    """Steps on a connection, and the reply of each.
 
-    hindered = ("growths",)
+    The reader delivers a text repeatedly. Reader and writer have a limit of bytes per call, and fail at one of their calls.
+    """
 
-    def __init__(self, name, given, reader, writer, steps, told):
+    failures = ("growths",)
+
+    def __init__(self, name, given, reader, writer, steps, replies):
         super().__init__(name, {}, b"")
-        self.given, self.limits, self.steps, self.told, self.pieces = given, (*reader, *writer), steps, told, ()
+        self.given, self.limits, self.steps, self.replies, self.pieces = given, (*reader, *writer), steps, replies, ()
 
     def words(self, fault):
         count, text = self.given
         return ["borrowed", str(count), text, *map(str, self.limits), *self.steps.split()]
 
     def whole(self):
-        return [self.told]
+        return [self.replies]
 
 
-def way_of_growth(row, answers, status, told):
-    return way_among(answers, row.with_one(503, "[Memory]")) if (status, told) == (0, b"") else None
+def way_of_growth(row, answers, status, errors):
+    return way_among(answers, row.with_one(503, "[Memory]")) if (status, errors) == (0, b"") else None
 
 
-def way_of_fault(row, answers, status, told):
+def way_of_fault(row, answers, status, errors):
     _whole, *ways = row.with_one(500, "[Fault]")
-    return way_among(answers, ways) if (status, told) == (0, b"") else None
+    return way_among(answers, ways) if (status, errors) == (0, b"") else None
 
 
-def way_of_cut(row, answers, status, told):
-    """How a run ended whose reader or writer failed. That may be the writing of how it ended."""
+def way_of_cut(row, answers, status, errors):
+    """Returns how a run with a failing reader or writer ended. The failed write may be that of the last line, its ending."""
     [answer], [whole] = answers, row.whole()
     is_begun = (whole if status == BROKEN else whole + OVER).startswith(answer)
-    return "cut off" if is_begun and status in (BROKEN, None) and told == b"" else None
+    return "cut off" if is_begun and status in (BROKEN, None) and errors == b"" else None
 
 
 class Sweep(hindering.Sweep):

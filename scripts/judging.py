@@ -1,13 +1,13 @@
-"""What came of the check of an edit, by what the prover said."""
+"""Judges the result of checking an edit from the output of the prover."""
 import re
 
 UNREAD = re.compile(
-    r"error\[[\w-]+\]"  # the compiler's
+    r"error\[[\w-]+\]"  # an error of the compiler
     r"|^(note: )?\S+:\d+:\d+: error: .*(is not in scope|has no field|has no `|is no name|operand is missing)"
     r"|^(note: )?(\./)?(src|specs)/\S+: error: [^`]",
     re.MULTILINE,
 )
-# of these, all but what a proof says that names what the edit took away
+# the same, except for messages about a proof that names something that the edit removed
 UNREADABLE = re.compile(
     r"error\[[\w-]+\]"
     r"|^(note: )?(?!(\./)?proofs/)\S+:\d+:\d+: error: .*(is not in scope|has no field|has no `|is no name|operand is missing)"
@@ -15,69 +15,69 @@ UNREADABLE = re.compile(
     re.MULTILINE,
 )
 WHERE = re.compile(r"^(note: )?\S+:\d+:\d+: error.*$", re.MULTILINE)
-# a limit of the prover that it meets wherever it checks the same
+# a limit of the prover that every check of the same text reaches
 LIMITS = re.compile(
     r"antt ran out of (stack|the (steps|memory) that the check of one declaration may (take|use))"
     r"|(outgrew the memory limit|stopped at the step limit) \("
 )
 
 
-def open_goals(said, function):
-    """The goals of a function's proof that are open, by name."""
+def open_goals(output, function):
+    """Returns the names of the open goals of a function's proof."""
     answers = rf"(?:\./)?proofs/{re.escape(function.replace('::', '/'))}/Answers\.antt"
-    goals = set(re.findall(rf"^(?:note: )?{answers}:\d+:\d+: error: `([^`]+)`", said, re.MULTILINE))
-    goals |= set(re.findall(rf"^note: `([^`]+)` of {answers} must prove", said, re.MULTILINE))
-    for line in re.findall(rf"^fn \w+::{re.escape(function)}: .*did not prove (.*)$", said, re.MULTILINE):
+    goals = set(re.findall(rf"^(?:note: )?{answers}:\d+:\d+: error: `([^`]+)`", output, re.MULTILINE))
+    goals |= set(re.findall(rf"^note: `([^`]+)` of {answers} must prove", output, re.MULTILINE))
+    for line in re.findall(rf"^fn \w+::{re.escape(function)}: .*did not prove (.*)$", output, re.MULTILINE):
         goals |= set(re.findall(r"`([^`]+)`", line))
     return goals
 
 
-def refused_functions(said):
-    """The functions of which a check found a goal open, by their names in the crate; none where it read no text."""
-    if re.search(r"error\[[\w-]+\]", said):
+def refused_functions(output):
+    """Returns the functions with an open goal, by their names in the crate. There are none if the crate does not compile."""
+    if re.search(r"error\[[\w-]+\]", output):
         return set()
-    names = re.findall(r"^fn \w+::(\S+): (?!proved$)", said, re.MULTILINE)
-    return {name for name in names if open_goals(said, name)}
+    names = re.findall(r"^fn \w+::(\S+): (?!proved$)", output, re.MULTILINE)
+    return {name for name in names if open_goals(output, name)}
 
 
 def is_named(function, names):
-    """Whether one of these names is that of a function, of which the end of its name is known."""
+    """Returns whether one of these names ends with the given name of a function."""
     return any(f"::{name}".endswith(f"::{function}") for name in names)
 
 
 def is_goal(named, goal):
-    """Whether an edit names a goal: by its own name, by the clause that it returns, or as a part of these.
+    """Returns whether an edit names a goal: by its name, by the name of its clause, or by a beginning of one of these.
 
-    `returns` alone is the one clause without a name, and no clause that has one."""
+    `returns` by itself means the one clause without a name, and no named clause."""
     where, _, clause = goal.partition("-clause-")
     name = clause if where.startswith("returns") and clause and "-clause-" not in named else goal
     return name == named or name.startswith((f"{named}-", f"{named} "))
 
 
-def outcome_of_all(status, said):
-    """What came of the check of a crate with an edit in a word, and more of it."""
-    unread = UNREADABLE.search(said)
+def outcome_of_all(status, output):
+    """Returns the outcome of checking a whole crate with an edit: a word, and details."""
+    unread = UNREADABLE.search(output)
     if status == 0:
         return "still proved", "the whole crate"
     if unread and status == 1:
-        return "does not compile", said[unread.start() :].partition("\n")[0]
-    if status == 1 and said.strip().splitlines()[-1].startswith("logic=not-proved"):
-        return "refused", (WHERE.search(said) or [""])[0][:160]
-    limit = LIMITS.search(said)
-    return ("refused", limit[0]) if status == 3 and limit else ("no verdict", said[-400:])
+        return "does not compile", output[unread.start() :].partition("\n")[0]
+    if status == 1 and output.strip().splitlines()[-1].startswith("logic=not-proved"):
+        return "refused", (WHERE.search(output) or [""])[0][:160]
+    limit = LIMITS.search(output)
+    return ("refused", limit[0]) if status == 3 and limit else ("no verdict", output[-400:])
 
 
-def outcome(edit, status, said):
-    """What came of an edit's check in a word, and more of it."""
-    counted = re.search(r"^only=(\d+) proved=(\d+)$", said, re.MULTILINE)
-    unread = UNREAD.search(said)
+def outcome(edit, status, output):
+    """Returns the outcome of checking an edit: a word, and details."""
+    counted = re.search(r"^only=(\d+) proved=(\d+)$", output, re.MULTILINE)
+    unread = UNREAD.search(output)
     if unread and status == 1:
-        return "does not compile", said[unread.start() :].partition("\n")[0]
+        return "does not compile", output[unread.start() :].partition("\n")[0]
     if status not in (0, 1) or not counted:
-        return "no verdict", said[-400:]
+        return "no verdict", output[-400:]
     if status == 0:
         return "still proved", edit.function
-    goals = sorted(open_goals(said, edit.function))
+    goals = sorted(open_goals(output, edit.function))
     if any(is_goal(edit.goal, goal) for goal in goals):
         return "refused", edit.goal
-    return "refused elsewhere", f"not {edit.goal}, but {', '.join(goals) or said[-600:]}"
+    return "refused elsewhere", f"not {edit.goal}, but {', '.join(goals) or output[-600:]}"

@@ -1,4 +1,4 @@
-"""Checks of a crate's text by the prover alone, over the libraries of the repository."""
+"""Checks the text of a crate by the prover, without `rt`, over the libraries of the repository."""
 import os
 import shutil
 import subprocess
@@ -7,11 +7,11 @@ import sys
 import tree
 
 KIT = os.path.dirname(subprocess.run(["rt", "doc"], capture_output=True, text=True, check=True).stdout.strip())
-LANES = int(os.environ.get("RT_JOBS", min(2, os.cpu_count())))  # how many checks at a time
+LANES = int(os.environ.get("RT_JOBS", min(2, os.cpu_count())))  # the number of checks at a time
 
 
-def is_left(root, name):
-    """Whether `rt ci` left the library of this crate as it stands. It writes no stamp beside it, as `rt lib` does."""
+def is_proved_by_ci(root, name):
+    """Returns whether `rt ci` made the library of this crate from its current text. Unlike `rt lib` it writes no stamp next to it."""
     library = f"{root}/crates/{name}/out/rlib/{name}.rlib"
     if not os.path.isdir(library) or os.path.exists(f"{root}/crates/{name}/out/rlib/stamp"):
         return False
@@ -22,7 +22,7 @@ def is_left(root, name):
 
 
 def link(one, other):
-    """Copies a file of kept work. A check replaces what it proved, and changes no such file, so a link serves."""
+    """Copies a file of stored results. A check replaces files of results and never changes one, so a link suffices for these."""
     return os.link(one, other) if one.endswith(".oantt") else shutil.copy2(one, other)
 
 
@@ -32,19 +32,19 @@ class Prover:
     def __init__(self, root):
         self.root = root
         self.crates = tree.crates(root)
-        self.first = ()  # what a check is begun by
+        self.prefix = ()  # words before the command of a check, such as `nice`
 
     def make_libraries(self, crates):
-        """Has these and all below in their places, by `rt lib` where `rt ci` did not leave them: those that are not."""
+        """Makes the libraries of these crates and of all below by `rt lib`, unless `rt ci` left them. Returns those that failed."""
         low = tree.lowest_first(self.crates, crates)
-        if all(is_left(self.root, it) for it in low):
+        if all(is_proved_by_ci(self.root, it) for it in low):
             return []
-        print(f"rt lib makes the libraries that are not there: {' '.join(low)}", file=sys.stderr, flush=True)
+        print(f"rt lib makes the libraries that are missing or out of date: {' '.join(low)}", file=sys.stderr, flush=True)
         made = {it: subprocess.run(["rt", "lib"], cwd=f"{self.root}/crates/{it}", capture_output=True) for it in low}
         return [it for it in low if made[it].returncode]
 
     def words(self, room, name, over):
-        """What rt gives rattle to check a crate that lies in a folder and stands on these."""
+        """Returns the arguments of rattle that check a crate in the folder `room`, over the libraries of the crates `over`."""
         given = ["--crate-name", name, "src/main.rt" if os.path.isfile(f"{room}/src/main.rt") else "src/lib.rt"]
         for it in ["std", *[it for it in over if it not in self.crates]]:
             given += ["--extern", f"{it}={KIT}/rlibs/{it}.rlib"]
@@ -59,10 +59,10 @@ class Prover:
         return [*given, *logic, *kind, "--jobs", "1", "--links", f"{name}="]
 
     def check(self, room, name, functions, kept=None, over=None):
-        """Proves these functions of a crate that lies in a folder, over kept work: the status and what was said."""
+        """Proves these functions of a crate in the folder `room`, from stored results in `kept`. Returns the status and the output."""
         words = self.words(room, name, self.crates[name] if over is None else over)
         words += [word for function in functions for word in ("--only", function)]
         words += ["--incremental", kept] if kept else []
         how = {"stdin": subprocess.DEVNULL, "stdout": subprocess.PIPE, "stderr": subprocess.STDOUT}
-        ran = subprocess.run([*self.first, f"{KIT}/bin/rattle", "check", *words], cwd=room, text=True, errors="replace", **how)
+        ran = subprocess.run([*self.prefix, f"{KIT}/bin/rattle", "check", *words], cwd=room, text=True, errors="replace", **how)
         return ran.returncode, ran.stdout

@@ -1,14 +1,15 @@
 /*
- * Loaded into a program, hinders what one of these words of its environment names, and says so:
+ * A library that is loaded into a program and lets one operation fail. It prints a message when this happens. A variable of
+ * the environment selects the operation by its number, counted from 0:
  *
- * REFUSE     a growth of its memory
- * FAIL       a call on a file, a folder or its input
- * BREAK      a sending or receiving on a connection
- * INTERRUPT  the same: a signal interrupts it
- * SPOIL      a writing to its output
+ * REFUSE     a growth of memory
+ * FAIL       a call on a file, on a folder or on the input
+ * BREAK      a send or receive on a connection
+ * INTERRUPT  a send or receive on a connection, which a signal interrupts
+ * SPOIL      a write to the output
+ * SOCKET     a call that makes, binds, accepts, watches or awaits sockets, or sets an option of one
  *
- * Each names one, counted from 0. SHORT is how many bytes any of these moves at most, and LATE how many writings to its
- * output come before the counting begins.
+ * SHORT is the most bytes that a call moves. LATE is the number of writes to the output before the counting begins.
  */
 #define NEXT ((void *)-1L)
 #define EINTR 4
@@ -24,55 +25,56 @@ extern char *getenv(const char *);
 extern int *__errno_location(void);
 long write(int, const void *, size);
 
-struct turn {
-    const char *name, *told;
+struct variable {
+    const char *name, *message;
     long left;
     int is_known;
 };
 
-static struct turn growth = {"REFUSE", "growth refused\n", 0, 0};
-static struct turn call = {"FAIL", "call failed\n", 0, 0};
-static struct turn traffic = {"BREAK", "connection broken\n", 0, 0};
-static struct turn signals = {"INTERRUPT", "call interrupted\n", 0, 0};
-static struct turn output = {"SPOIL", "output spoiled\n", 0, 0};
-static struct turn most = {"SHORT", "", 0, 0};
-static struct turn early = {"LATE", "", 0, 0};
+static struct variable growth = {"REFUSE", "growth refused\n", 0, 0};
+static struct variable call = {"FAIL", "call failed\n", 0, 0};
+static struct variable traffic = {"BREAK", "connection broken\n", 0, 0};
+static struct variable signals = {"INTERRUPT", "call interrupted\n", 0, 0};
+static struct variable output = {"SPOIL", "output spoiled\n", 0, 0};
+static struct variable most = {"SHORT", "", 0, 0};
+static struct variable early = {"LATE", "", 0, 0};
 
-/* The number behind a name, which is left, or -1 where there is none. */
-static long left(struct turn *turn) {
+/* The remaining count of a variable, or -1 if the variable is not set. */
+static long left(struct variable *variable) {
     const char *word;
-    if (!turn->is_known) {
-        turn->is_known = 1;
-        word = getenv(turn->name);
-        for (turn->left = word ? 0 : -1; word && *word; word++)
-            turn->left = 10 * turn->left + (*word - '0');
+    if (!variable->is_known) {
+        variable->is_known = 1;
+        word = getenv(variable->name);
+        for (variable->left = word ? 0 : -1; word && *word; word++)
+            variable->left = 10 * variable->left + (*word - '0');
     }
-    return turn->left;
+    return variable->left;
 }
 
-static int has_come(struct turn *turn) {
-    const char *end = turn->told;
-    if (left(turn) < 0 || left(&early) > 0 || turn->left-- > 0)
+/* Counts an operation. If it is the selected one, prints the message and returns 1. */
+static int has_come(struct variable *variable) {
+    const char *end = variable->message;
+    if (left(variable) < 0 || left(&early) > 0 || variable->left-- > 0)
         return 0;
     while (*end)
         end++;
-    write(ERRORS, turn->told, end - turn->told);
+    write(ERRORS, variable->message, end - variable->message);
     return 1;
 }
 
-static int fails(struct turn *turn, int error) {
-    if (!has_come(turn))
+static int fails(struct variable *variable, int error) {
+    if (!has_come(variable))
         return 0;
     *__errno_location() = error;
     return 1;
 }
 
-/* Whether a sending or receiving on a connection fails. */
+/* Whether a send or receive on a connection fails. */
 static int breaks(void) {
     return fails(&traffic, ECONNRESET) || fails(&signals, EINTR);
 }
 
-/* Whether a writing to a descriptor fails. One before the counting begins does not. */
+/* Whether a write to a descriptor fails. A write before the counting begins does not fail. */
 static int spoils(int fd) {
     if (fd != OUTPUT)
         return 0;
@@ -87,7 +89,7 @@ static size at_most(size wanted) {
     return left(&most) > 0 && wanted > (size)most.left ? (size)most.left : wanted;
 }
 
-/* A function of the C library, that runs what is given first. */
+/* Replaces a function of the C library by one that executes `first` before it. */
 #define BEFORE(type, name, parameters, arguments, first) \
     type name parameters { \
         static type(*next) parameters; \
@@ -112,7 +114,7 @@ BEFORE(long, send, (int fd, const void *from, size n, int flags), (fd, from, at_
 BEFORE(long, write, (int fd, const void *from, size n), (fd, from, fd == OUTPUT ? at_most(n) : n),
        if (spoils(fd)) return -1)
 
-/* A sending of several pieces, of which it moves the first bytes at most. */
+/* A send of several pieces. It moves at most the first SHORT bytes. */
 struct piece {
     void *from;
     size n;
@@ -148,8 +150,7 @@ long sendmsg(int fd, const struct message *message, int flags) {
     return next(fd, &first, flags);
 }
 
-/* The word SOCKET names a call that makes, binds, accepts, watches or awaits sockets, or sets an option of one. */
-static struct turn sockets = {"SOCKET", "socket call failed\n", 0, 0};
+static struct variable sockets = {"SOCKET", "socket call failed\n", 0, 0};
 
 #define ON_SOCKETS(name, parameters, arguments) \
     BEFORE(int, name, parameters, arguments, if (fails(&sockets, EIO)) return -1)

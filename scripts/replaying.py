@@ -1,4 +1,4 @@
-"""Scripts, and what `iolite replay` answers to them."""
+"""Scripts, and the replies of `iolite replay` to them."""
 import os
 import subprocess
 
@@ -10,42 +10,46 @@ SECONDS = 120
 
 
 class Wrong(Exception):
-    """A run that did not end as it must."""
+    """An unexpected result of a run."""
 
 
 def build():
-    """Has the program proved and built, where that is still to be done."""
+    """Proves and builds the program if it is missing or out of date."""
     subprocess.run([f"{tree.ROOT}/scripts/iolite", "replay"], stdin=subprocess.DEVNULL, check=True)
 
 
-def is_answered(line):
+def has_reply(line):
+    """Returns whether a line gets a reply: it is no comment, no header and not empty."""
     return line != b"" and not line.startswith((b"#", *HEADERS))
 
 
 class Script:
-    """The lines of a script, where those stand that are answered, and whether reports' counts are compared."""
+    """The lines of a script, the indices of those that get a reply (the events), and whether the counts of reports are compared."""
 
     def __init__(self, lines, counts):
         self.lines = lines
         self.counts = counts
-        self.events = [at for at, line in enumerate(lines) if is_answered(line)]
+        self.events = [at for at, line in enumerate(lines) if has_reply(line)]
 
     def without(self, event):
+        """Returns the script without an event."""
         at = self.events[event]
         return Script(self.lines[:at] + self.lines[at + 1:], self.counts)
 
     def doubled(self, event):
+        """Returns the script in which an event occurs twice."""
         at = self.events[event]
         return Script(self.lines[:at + 1] + self.lines[at:], self.counts)
 
     def first(self, count):
-        """All but so many of its first events turned into comments, each as long as it was."""
+        """Returns the script with its first `count` events. The others are comments of the same length."""
         lines = list(self.lines)
         for at in self.events[count:]:
             lines[at] = b"#" + lines[at][1:]
         return Script(lines, self.counts)
 
     def headed(self, line):
+        """Returns the script with a further line at its head."""
         return Script([line, *self.lines], self.counts)
 
     def run(self, extra=None):
@@ -54,14 +58,14 @@ class Script:
         return subprocess.run([PROGRAM, "replay"], input=given, capture_output=True, env=env, timeout=SECONDS)
 
     def output(self):
-        """What it prints with all memory."""
+        """Runs the script with no failure, and returns the output."""
         ended = self.run()
         if ended.returncode != 0 or ended.stderr:
-            raise Wrong(f"status {ended.returncode} with all memory, {ended.stderr[-200:]!r}")
+            raise Wrong(f"status {ended.returncode} without a failure, {ended.stderr[-200:]!r}")
         return ended.stdout
 
-    def answered(self, output):
-        """The lines that answer each event."""
+    def reply_lines(self, output):
+        """Returns the lines of the reply to each event."""
         *left, last = output.split(b"\n")
         answers, begin = [], 0
         for at in self.events:
@@ -70,7 +74,7 @@ class Script:
                 while end < len(left) and not left[end].startswith(b"extents "):
                     end += 1
             if last or end >= len(left):
-                raise Wrong("not a reply a line")
+                raise Wrong("not one reply per line")
             answers.append(left[begin:end + 1])
             begin = end + 1
         if begin < len(left):
@@ -78,24 +82,24 @@ class Script:
         return answers
 
     def answers(self, output):
-        """The same, but of a report whose counts are not compared only that it stands there."""
-        told = self.answered(output)
+        """Returns the same, with one word in place of each report whose counts are not compared."""
+        reply_lines = self.reply_lines(output)
         if self.counts:
-            return told
-        return [[b"report"] if self.lines[at] == b"report" else answer for at, answer in zip(self.events, told)]
+            return reply_lines
+        return [[b"report"] if self.lines[at] == b"report" else answer for at, answer in zip(self.events, reply_lines)]
 
     def ends(self, output):
-        """Where the first answer begins, and where each ends."""
+        """Returns the offsets in the output at which the first reply begins and each reply ends."""
         ends = [0]
-        for answer in self.answered(output):
+        for answer in self.reply_lines(output):
             ends.append(ends[-1] + sum(len(line) + 1 for line in answer))
         return ends
 
     def agree(self, answers, others):
-        """Whether two runs were answered alike.
+        """Returns whether two runs have the same replies.
 
-        Where reports' counts are not compared, what of files is in memory may differ. So what is pinned may, too, and from
-        the first NoRoom of one run alone nothing is compared.
+        If the counts of reports are not compared, the two runs may have different ranges of files in memory, and so different
+        pinned pages. Then the replies are compared up to the first NoRoom that only one of them has.
         """
         for answer, other in zip(answers, others, strict=True):
             if answer != other:

@@ -1,6 +1,6 @@
-"""Runs of a script's events on a system, each with another growth of memory refused (`refuse.c`), and what was refused retried.
+"""Runs a script's events on a system, each time with another growth of memory refused (`refuse.c`), and the refused event retried.
 
-The program is crates/test_retried_events. It prints each answer as Rust's `Debug` writes it, those of refused tries, too.
+The program is crates/test_retried_events. It prints each reply in the form of Rust's `Debug`, also those of refused tries.
 """
 import itertools
 import os
@@ -17,28 +17,28 @@ CRATE = f"{tree.ROOT}/crates/test_retried_events"
 PROGRAM = f"{CRATE}/out/test_retried_events"
 SIZES = [b"256", b"4294967295", b"1024"]
 MODES = {"read": 0, "write": 1, "both": 2, "done": 0, "gone": 1}
-BEGIN = b"\n"  # what is printed before the system is made
-WAYS = ("retried", "spared")
-COUNTED = {"LATE": "1"}  # so many writings to the output come before growths are counted
-MOST_CALLS = 20  # of the store, by one event
+BEGIN = b"\n"  # the output before the system is made
+WAYS = ("retried", "unneeded")
+COUNTED = {"LATE": "1"}  # growths are counted after this number of writes to the output
+MOST_CALLS = 20  # the most calls of the store by one event
 NUMBER = re.compile(rb"\d+")
-WANT = re.compile(rb"NoReport|Reply\(Refused\((Memory|Fault \{.*)\)\)")
+SHORTAGE = re.compile(rb"NoReport|Reply\(Refused\((Memory|Fault \{.*)\)\)")
 
 
 def build():
-    """Has the program proved and built, where it is not there, or a source is newer."""
+    """Proves and builds the program if it is missing or a source is newer."""
     tree.build_program("test_retried_events", *tree.read(f"{CRATE}/args").splitlines())
 
 
 def repeated(data):
-    """The words for a text: a count, and what is repeated."""
+    """Returns the arguments for a text: a number of repetitions, and the repeated text."""
     count = len(data) if data == data[:1] * len(data) else 1
     once = data[:1] if count > 1 else data
     return [str(count or 1), "".join(f"%{byte:02x}" for byte in once)]
 
 
 def words_of(line, is_fault):
-    """The words for a line that is answered, by a fault or otherwise."""
+    """Returns the arguments for an event. `is_fault` says whether its reply is a fault."""
     name, given = read_line(line)
     kinds, by = OUTSIDE.get(name), 0
     if name in CALLS:
@@ -56,7 +56,7 @@ def words_of(line, is_fault):
 
 
 def parsed(reply):
-    """The name and the numbers of a reply of a script."""
+    """Returns the name and the numbers of a reply of a script."""
     word, _, rest = reply[0].partition(b" ")
     if word in (b"pool", b"extents") and len(reply[0].split()) > 2:
         return b"Report", [int(it) for line in reply for it in NUMBER.findall(line)]
@@ -71,13 +71,13 @@ def parsed(reply):
 
 
 def is_reply(answer, reply):
-    """Whether an answer of the program is this reply of a script."""
+    """Returns whether a reply of the program is this reply of a script."""
     word, numbers = parsed(reply)
     return word in re.findall(rb"\w+", answer)[:3] and [int(it) for it in NUMBER.findall(answer)] == numbers
 
 
 class Retried:
-    """A script's events, for the program."""
+    """A script's events as arguments of the program."""
 
     def __init__(self, script, replies):
         self.sizes, self.fault, self.pieces = SIZES, 0, []
@@ -101,7 +101,7 @@ class Retried:
         return [*head, *itertools.chain(*pieces, *self.events)]
 
     def run(self, extra, fault):
-        """The answers, and whether something was refused."""
+        """Runs the program. Returns the replies, and whether a growth was refused."""
         ran = subprocess.run([PROGRAM, *self.words(fault)], env={**os.environ, **extra}, capture_output=True, timeout=SECONDS)
         left = ran.stderr.replace(REFUSED, b"", 1)
         if ran.returncode != 0 or left or not ran.stdout.startswith(BEGIN):
@@ -110,7 +110,7 @@ class Retried:
 
 
 def one_more(answers, expected):
-    """The answer without which the others are as expected, or None."""
+    """Returns the reply without which the others are the expected ones, or None."""
     at = next((at for at, answer in enumerate(expected) if answers[at:at + 1] != [answer]), len(expected))
     return answers[at] if answers[:at] + answers[at + 1:] == expected and at < len(answers) else None
 
@@ -120,31 +120,31 @@ class Sweep:
 
     def __init__(self, name, script, shim):
         self.name, self.env = name, {**COUNTED, "LD_PRELOAD": shim}
-        replies = script.answered(script.output())
+        replies = script.reply_lines(script.output())
         self.row = Retried(script, replies)
         self.expected, _ = self.row.run({}, self.row.fault)
         if len(self.expected) != len(replies) or not all(map(is_reply, self.expected, replies)):
-            raise Wrong(f"{name}: its events are answered otherwise than its lines")
+            raise Wrong(f"{name}: the replies to its events differ from those to its lines")
 
     def way(self, number):
-        """How a run ended, or nothing where no growth was left to refuse.
+        """Returns how a run ended, or None if there was no further growth to refuse.
 
-        A try that is refused may have called the store before, and its retry calls the store again. So where a script names a call
-        that fails, the same call of the same event has a number that is higher by the calls of the refused try.
+        A refused try may have called the store already, and its retry calls the store again. So if a script names a call that
+        fails, the number of the same call of the same event is higher by the calls of the refused try.
         """
         for calls in range(MOST_CALLS if self.row.fault else 1):
             answers, is_refused = self.row.run(self.env | {"REFUSE": str(number)}, self.row.fault + calls)
             if not is_refused and calls == 0:
                 return None
             if is_refused and answers == self.expected:
-                return "spared"
+                return "unneeded"
             refused = one_more(answers, self.expected)
-            if is_refused and refused and WANT.match(refused):
+            if is_refused and refused and SHORTAGE.match(refused):
                 return "retried"
-        raise Wrong(f"{self.name}, growth {number} refused and retried: {answers}, and not {self.expected}"[:3000])
+        raise Wrong(f"{self.name}, growth {number} refused and retried: got {answers}, expected {self.expected}"[:3000])
 
     def counts(self):
-        """Refuses one growth after another, until there is none to refuse: how often it ended in which way."""
+        """Refuses one growth after another, until there is no further growth. Returns the number of runs for each way."""
         counts = dict.fromkeys(WAYS, 0)
         for number in itertools.count():
             way = self.way(number)

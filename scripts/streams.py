@@ -1,4 +1,4 @@
-"""Runs of a script whose input and output fail, or move few bytes at a time (`refuse.c`)."""
+"""Runs a script with failing input and output, and with few bytes moved at a time (`refuse.c`)."""
 from replaying import Wrong
 
 FEW = (1, 7)  # bytes
@@ -6,7 +6,7 @@ FAILURES = (("FAIL", b"call failed\n", b"fault: input\n"), ("SPOIL", b"output sp
 
 
 def check_few(script, output, shim):
-    """With few bytes at a time it prints what it prints otherwise."""
+    """Checks that the output is the same with few bytes moved at a time."""
     for few in FEW:
         ended = script.run({"LD_PRELOAD": shim, "SHORT": str(few)})
         if (ended.returncode, ended.stdout, ended.stderr) != (0, output, b""):
@@ -14,20 +14,20 @@ def check_few(script, output, shim):
 
 
 def failures(script, output, shim, word, mark, fault):
-    """How many calls there were to fail, each of which ended the program after a beginning of what it prints."""
+    """Lets each call fail in turn, and returns the number of calls. Each must end the program after a beginning of its output."""
     number = 0
     while True:
         ended = script.run({"LD_PRELOAD": shim, word: str(number)})
         if mark not in ended.stderr:
             return number
-        told = ended.stderr.replace(mark, b"", 1)
-        if (ended.returncode, told) != (3, fault) or not output.startswith(ended.stdout):
-            raise Wrong(f"{word}={number}, status {ended.returncode}, {told!r}")
+        errors = ended.stderr.replace(mark, b"", 1)
+        if (ended.returncode, errors) != (3, fault) or not output.startswith(ended.stdout):
+            raise Wrong(f"{word}={number}, status {ended.returncode}, {errors!r}")
         number += 1
 
 
 def check(name, script, output, shim):
-    """How many failures of input and of output there were."""
+    """Tests a script, and returns the number of failures of input and output."""
     try:
         check_few(script, output, shim)
         return sum(failures(script, output, shim, *each) for each in FAILURES)

@@ -1,7 +1,7 @@
-"""What random scripts are about: how large their system is, how they begin, and how often they make which calls."""
+"""The themes of random scripts. A theme sets the size of the system, the first lines, and the frequency of each call."""
 from dataclasses import dataclass, field
 
-# How often each call is drawn. `report` is no call: it counts pages and extents.
+# The relative frequency of each call. `report` is no call: it counts pages and extents.
 BASE = {
     "domain_new": 2, "exit": 0.6, "pool_create": 4, "pool_close": 1.5, "pool_admit": 3, "set_pool": 5,
     "agg_make": 10, "agg_fill": 4, "agg_dup": 5, "agg_cut": 7, "agg_split": 5, "agg_join": 6, "agg_replace": 5,
@@ -13,10 +13,11 @@ TRAFFIC = ("iol_write", "iol_read", "write", "read")
 ON_FILES = ("file_new", "open_file", "seek", "length", "fsync", "flush", "drop_clean", *TRAFFIC)
 ON_PIPES = ("pipe", "give_fd", "set_pool", "agg_make", "agg_join", "pool_admit", *TRAFFIC)
 ON_NET = ("accept", "conn_new", "arrive", "peer_closed", "transmit", *TRAFFIC)
-# Of what a table is full of nothing is given up, and a text that is as long as may be is not shown.
-GIVEN_UP = ("exit", "close", "agg_drop", "agg_join", "peer_closed")
-SHOWN = ("exit", "show", "read", "iol_read", "agg_fill")
-# How many bytes a TEXT has: from the first to the second number.
+# Calls that do not occur if a table is full, because they free entries; and calls that do not occur with files of the maximal
+# length, because they print or make long texts, or end the domain.
+FREEING = ("exit", "close", "agg_drop", "agg_join", "peer_closed")
+PRINTING = ("exit", "show", "read", "iol_read", "agg_fill")
+# The ranges of the number of bytes of a TEXT.
 SMALL = ((0, 0), (1, 1), (1, 12), (1, 12), (5, 40))
 LARGE = ((0, 12), (1, 40), (4090, 4100), (8190, 8194), (5000, 20_000))
 LONG = 2**24
@@ -28,23 +29,23 @@ def times(names, factor):
 
 @dataclass
 class Theme:
-    """A number that is a pair is drawn between the two."""
+    """A theme. A number is drawn between the two of a pair."""
 
     weights: dict = field(default_factory=lambda: BASE)
     chunks: tuple = (2, 12)  # of the system
     generations: tuple = (2**32 - 1, 2**32 - 1)
-    pools: tuple = (1, 1, 2, 3)  # chunks of one
+    pools: tuple = (1, 1, 2, 3)  # the possible numbers of chunks of a pool
     texts: tuple = SMALL
     fills: tuple = ((1, 100), (4096, 70_000))  # the bytes of an `agg_fill`
-    most: int = 20_000  # bytes that a read asks for
+    most: int = 20_000  # one of the numbers of bytes that a read requests
     lines: tuple = (30, 120)
     is_faulty: bool = False
-    filling: tuple = ()  # the first lines, which fill a table
+    filling: tuple = ()  # the first lines, for example to fill a table
     is_swept: bool = False  # replayed with growths refused
     is_stored: bool = False  # replayed with calls of the store failing
 
     def headers(self, chance):
-        """The lines that set the system up."""
+        """Yields the headers, which set up the system."""
         sizes = chance.randint(*self.chunks), chance.randint(*self.generations), chance.choice((1, 2, 1024))
         yield "config {} {} {}".format(*sizes)
         if self.is_faulty:
@@ -54,7 +55,7 @@ class Theme:
             yield f"storen {slot} {chance.choice((0, 1, 4096, 9000, 40_000))} {chance.choice(('a', 'xyz', '%ff'))}"
 
     def opening(self, chance):
-        """The first calls: those that fill a table, or domains, and pools for some of them."""
+        """Returns the first calls: those that fill a table, or those that make domains, and pools for some of them."""
         if self.filling or chance.random() < 0.1:
             return self.filling
         domains = range(1, chance.randint(2, 5))
@@ -67,13 +68,13 @@ class Theme:
 
 
 class Long(Theme):
-    """Files and an aggregate as long as may be, and a slot that is too long."""
+    """Files and an aggregate of the maximal length, and a slot that is too long."""
 
     def headers(self, chance):
         yield from ("config 256 9 9", f"storen 1 {LONG} a", "store 2 b", f"storen 3 {LONG + 1} a")
 
 
-# Calls on five files whose pool does not hold them all.
+# The frequency of calls on five files that do not fit their pool together.
 EVICTING = {
     "read": 20, "iol_read": 10, "agg_drop": 12, "seek": 20, "write": 6, "iol_write": 6, "agg_fill": 2, "agg_make": 2,
     "agg_cut": 3, "agg_join": 3, "fsync": 3, "flush": 6, "drop_clean": 0.5, "length": 1, "report": 12,
@@ -81,7 +82,7 @@ EVICTING = {
 
 
 class Evicting(Theme):
-    """Files of several pages in a pool of one or two chunks, which are read and written again and again."""
+    """Files of several pages in a pool of one or two chunks, which are read and written repeatedly."""
 
     def headers(self, chance):
         yield f"config 4 {chance.randint(*self.generations)} 9"
@@ -101,7 +102,7 @@ def listed(numbers):
 
 
 def pool_of(chunks):
-    """Domain 1 has a pool, in which it places bytes."""
+    """Returns the lines that give domain 1 a pool, and make it the default pool."""
     return [f"1 pool_create {chunks} 1", "1 set_pool 1"]
 
 
@@ -111,13 +112,13 @@ def closed_pools():
 
 
 def longest_aggregate():
-    """Aggregate 17 has as many bytes as may be, of one chunk."""
+    """Yields the lines that make aggregate 17 with the maximal number of bytes, all from one chunk."""
     yield from (*pool_of(2), f"1 agg_fill {LONG + 1} a", "1 agg_fill 65536 a")
     for first in range(1, 17, 2):
         yield from (f"1 agg_dup {first}", f"1 agg_join {first} {first + 1}")
 
 
-# Lines that fill a table. The last of each want one more.
+# Lines that fill a table. The last ones of each request a further entry.
 FILLINGS = {
     "domains": ["1 domain_new"] * 4096,
     "names": [
@@ -142,17 +143,17 @@ LONGEST = [
     "1 open_file b both", "1 agg_make tail", "1 agg_join 17 18", "1 agg_replace 17 0 0 18", "1 iol_write 0 18",
     "1 write 0 x", "1 file_new c 1",
 ]
-# Domain 2 reads from a pipe into which domain 1 writes bytes of pools that name the reader, and of one that does not.
+# Domain 2 reads from a pipe. Domain 1 writes bytes into it: of a pool that names the reader, and of one that does not.
 MIXED = (
     "1 domain_new", "1 pool_create 2 1,2", "1 pool_create 2 1", "1 pool_create 2 1,2", "1 pipe", "1 give_fd 0 2",
     "1 set_pool 1", "1 agg_make both", "1 iol_write 1 1", "1 set_pool 2", "1 agg_make mine", "1 iol_write 1 2",
 )
-# Domain 1 places bytes in a closed pool, and nobody reads its pipe, nor its connection.
+# Domain 1 places bytes in a closed pool. Its pipe has no reader, and its connection has no peer.
 BROKEN = (
     "1 pool_create 2 1", "1 pool_create 2 1", "1 set_pool 1", "1 pipe", "1 agg_make x", "1 close 0", "conn_new 2",
     "1 accept", "peer_closed 1 gone", "1 pool_close 1", "1 write 1 x", "1 write 0 x",
 )
-# A file whose pool is full, and bytes that lie in another.
+# A file whose pool is full, and bytes in another pool.
 FULL_POOL = (
     "1 pool_create 1 1", "1 pool_create 1 1", "1 set_pool 1", "1 agg_fill 65536 a", "1 set_pool 2", "1 agg_make b",
     "1 file_new f 1", "1 open_file f both", "1 iol_write 0 2",
@@ -169,8 +170,8 @@ FEW = (20, 60)
 STORE = {"weights": times(ON_FILES, 4), "pools": (1, 2)}
 NET = {"weights": times(ON_NET, 4)}
 QUEUES = {**NET, "pools": (4, 8), "chunks": (16, 32), "texts": (*LARGE, (60_000, 70_000)), "lines": FEW}
-FULL = {"weights": times(GIVEN_UP, 0), "lines": FEW}
-# A seed has the theme of its place here, over and over.
+FULL = {"weights": times(FREEING, 0), "lines": FEW}
+# The theme of a seed has the index of the seed, modulo the number of themes.
 THEMES = [
     *[Theme(is_swept=True)] * 16,
     *[Theme(chunks=(1, 3), pools=(1, 1, 2), texts=LARGE)] * 10,
@@ -190,5 +191,5 @@ THEMES = [
     *[Theme(**QUEUES, filling=FULL_QUEUES)] * 2,
     *[Theme(**FULL, filling=tuple(filling)) for filling in FILLINGS.values()],
     *[Theme(**FULL, filling=tuple(FILLINGS[name])) for name in ("names", "descriptors", "connections", "files")],
-    *[Long(weights=times(SHOWN, 0), filling=tuple(LONGEST), lines=(5, 15))] * 2,
+    *[Long(weights=times(PRINTING, 0), filling=tuple(LONGEST), lines=(5, 15))] * 2,
 ]

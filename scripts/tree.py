@@ -1,4 +1,4 @@
-"""What the scripts share: the crates of a tree, the edits of a crate, and copies of a tree."""
+"""Functions that the scripts share: the crates of a tree, the edits of a crate, and copies of a tree."""
 import functools
 import os
 import re
@@ -7,7 +7,7 @@ import subprocess
 from dataclasses import dataclass
 
 ROOT = os.path.dirname(os.path.dirname(os.path.abspath(__file__)))
-PARTS = ("src", "specs", "proofs")  # what a crate is checked from
+PARTS = ("src", "specs", "proofs")  # the folders of a crate that the prover reads
 TALLY = re.compile(r"(\d+) passed, (\d+) failed")
 
 
@@ -27,7 +27,7 @@ def write(path, text):
 
 
 def listed(text):
-    """Each crate of a crates.txt with what it stands on, in order."""
+    """Returns each crate of the text of a crates.txt with its dependencies, in order."""
     lines = (line.split("#")[0].strip() for line in text.splitlines())
     named = (line.partition(":") for line in lines if line)
     return {name.split()[0]: low.split() for name, _, low in named}
@@ -38,12 +38,12 @@ def crates(root=ROOT):
 
 
 def is_static(name, root=ROOT):
-    """Whether crates.txt lists a crate as a static library."""
+    """Returns whether crates.txt lists a crate as a static library."""
     return any(line.partition(":")[0].split() == [name, "staticlib"] for line in read(f"{root}/crates.txt").splitlines())
 
 
 def lowest_first(known, names):
-    """The crates of these names and all that they stand on, what is below first."""
+    """Returns these crates and all their dependencies, lower crates first."""
     found = []
     for name in names:
         if name in known:
@@ -52,18 +52,19 @@ def lowest_first(known, names):
 
 
 def below(known, name):
+    """Returns all crates on which a crate depends."""
     return lowest_first(known, known[name])
 
 
 def above(known, names):
-    """The crates that stand on one of these."""
+    """Returns the crates that depend on one of these."""
     return [name for name in known if any(low in names for low in below(known, name))]
 
 
 def paths(known):
-    """How many paths through crates.txt begin at each crate, the one that ends there among them.
+    """Returns the number of paths through crates.txt that begin at each crate, including the path that ends there.
 
-    `rt` reads the files of a crate once for each path to it, whenever it sums those of a crate above.
+    When `rt` makes a checksum of a crate, it reads the files of each crate below once for each path to it.
     """
     @functools.cache
     def count(name):
@@ -73,7 +74,7 @@ def paths(known):
 
 
 def only_known(names, known):
-    """These names, or all where there are none. One that is no crate ends the script."""
+    """Returns these names, or all crates if there are no names. A name that is no crate ends the script."""
     for name in names:
         if name not in known:
             raise SystemExit(f"{name} is no crate of crates.txt")
@@ -82,7 +83,7 @@ def only_known(names, known):
 
 @dataclass(frozen=True)
 class Edit:
-    """A change of a crate's text: old and new texts by file, and which goal of which function refuses it."""
+    """A change of a crate's text: old and new texts by file, and the function and the goal that must refuse it."""
 
     crate: str
     name: str
@@ -97,11 +98,12 @@ class Edit:
                 raise Unfit(f"there is no file {file}")
             text = read(f"{room}/{file}")
             if text.count(old) != 1:
-                raise Unfit(f"an old text stands in {file} {text.count(old)} times, and not once: {old.strip()}")
+                raise Unfit(f"an old text occurs {text.count(old)} times in {file}, not once: {old.strip()}")
             write(f"{room}/{file}", text.replace(old, new))
 
 
 def read_edit(crate, path):
+    """Reads the edit in a file."""
     file, old, changes, words = None, None, [], {}
     for line in read(path).splitlines():
         key, _, rest = line.partition(":")
@@ -116,25 +118,25 @@ def read_edit(crate, path):
         elif key in ("function", "goal") and rest.strip():
             words[key] = rest.strip()
         else:
-            raise Unfit(f"a line that is not read: {line}")
+            raise Unfit(f"an unknown line: {line}")
     if not changes or old is not None:
-        raise Unfit("it has no pair of an old and a new text, or half of one")
+        raise Unfit("it has no pair of an old and a new text, or an incomplete one")
     return Edit(crate, name_of(path), tuple(changes), **words)
 
 
 def name_of(path):
-    """The name of the edit in a file."""
+    """Returns the name of the edit in a file."""
     return os.path.basename(path).removesuffix(".edit")
 
 
 def edits_in(folder):
-    """The files of the edits in a folder, by name."""
+    """Returns the files of the edits in a folder, in the order of their names."""
     names = sorted(os.listdir(folder)) if os.path.isdir(folder) else []
     return [f"{folder}/{name}" for name in names if name.endswith(".edit")]
 
 
 def copy_crate(name, room, root=ROOT):
-    """Copies what a crate is checked from into a new folder."""
+    """Copies the folders of a crate that the prover reads into a new folder."""
     os.makedirs(room)
     for part in PARTS:
         if os.path.isdir(f"{root}/crates/{name}/{part}"):
@@ -142,7 +144,7 @@ def copy_crate(name, room, root=ROOT):
 
 
 def copy_tree(room, root=ROOT, leave=("edits", "wrong")):
-    """Copies the crates and what rt reads beside them, without what is made of them and what is to be left."""
+    """Copies the crates and the other files that rt reads, without build results and without the folders `leave`."""
     shutil.copytree(f"{root}/crates", f"{room}/crates", ignore=shutil.ignore_patterns("out", *leave))
     for name in ("crates.txt", "HANDLES"):
         if os.path.isfile(f"{root}/{name}"):
@@ -150,7 +152,7 @@ def copy_tree(room, root=ROOT, leave=("edits", "wrong")):
 
 
 def sources():
-    """The files from which programs are built."""
+    """Yields the files from which programs are built."""
     yield f"{ROOT}/crates.txt"
     for name in crates():
         for part in PARTS:
@@ -159,7 +161,7 @@ def sources():
 
 
 def build_program(name, *words):
-    """Has the program of a crate proved and built, where it is not there or a source is newer: it is run with these words then."""
+    """Proves and builds the program of a crate by `rt run` if it is missing or a source is newer. That also runs it, with `words`."""
     room = f"{ROOT}/crates/{name}"
     program = f"{room}/out/{name}"
     built = os.path.getmtime(program) if os.path.isfile(program) else 0
@@ -168,15 +170,15 @@ def build_program(name, *words):
         os.utime(program)
 
 
-def tally(said):
-    """How many passed and failed by the last line of what a script said, or nothing."""
-    lines = said.strip().splitlines()
+def tally(output):
+    """Returns the numbers of passed and failed checks from the last line of a script's output, or None."""
+    lines = output.strip().splitlines()
     found = TALLY.match(lines[-1]) if lines else None
     return (int(found[1]), int(found[2])) if found else None
 
 
 def report(results):
-    """Prints the last line of a script that tries several things, and gives its status. None at all is a failure."""
+    """Prints the last line of a script with several checks, and returns its status. No check at all is a failure."""
     passed = sum(map(bool, results))
     print(f"{passed} passed, {len(results) - passed} failed", flush=True)
     return 0 if results and passed == len(results) else 1

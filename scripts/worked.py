@@ -1,4 +1,4 @@
-"""The worked rows: requests to a site, and steps of a borrowed path."""
+"""The worked rows: requests to a site, and steps of a borrowed path, with their replies."""
 from in_memory import SITE, ByTurns, Served, Steps
 from model.cgi import Private
 from model.http import WINDOW, lined
@@ -50,7 +50,7 @@ OTHER_RANGES = (of_host("/f", "Range: bytes=0-1", "Range: bytes=0-1") + of_host(
 
 
 def heads_at_the_limit():
-    """Heads of 8,191 bytes, of 8,192 and of one more, and two behind an empty line."""
+    """Yields heads of 8,191, 8,192 and 8,193 bytes, and two heads after an empty line."""
     for before, count in (("", 8159), ("", 8160), ("", 8161), ("\r\n", 8158), ("\r\n", 8159)):
         yield f"{before!r} {count}", before.encode() + of_host("/", f"X: {'y' * count}")
 
@@ -74,8 +74,8 @@ def of_server():
 
 def of_scripts():
     yield ByTurns("script-and-file-by-turns", TURNS, of_host("/s.cgi?q=1"), of_host("/f"), late=SITE)
-    asked = ("/all.cgi", "/p.cgi", "/junk.cgi", "/pauses.cgi", "/own.cgi", "/lost.cgi")
-    yield Served("outcomes-of-a-script", OUTCOMES, b"".join(map(of_host, asked)), late=SITE)
+    requested = ("/all.cgi", "/p.cgi", "/junk.cgi", "/pauses.cgi", "/own.cgi", "/lost.cgi")
+    yield Served("outcomes-of-a-script", OUTCOMES, b"".join(map(of_host, requested)), late=SITE)
     yield Served("two-lines-chunked", CHUNKS, of_host("/two.cgi?q=1") + of_host("/two.cgi?q=1", what="HEAD"))
     yield Served("two-lines-chunked, byte by byte", CHUNKS, of_host("/two.cgi?q=1"), few="1")
     yield Served("two-lines-chunked, HTTP/1.0", CHUNKS, get("/two.cgi?q=1", version="1.0"))
@@ -92,14 +92,14 @@ def lines(*texts):
 
 ECHO = ("fd 0", "agg 1", "count 3", "done")
 IN, END, FAILED = "in %d false false", "in 0 true false", "in 0 false true"
-# How many bytes a writer takes at once at most, how many it is asked to, what it takes, and in how many writes.
+# The most bytes that a writer takes at once, the number of bytes requested, the bytes taken, and the number of writes.
 WRITES = ((9, 9, "abcde", 2), (9, 4, "abcd", 2), (9, 3, "abc", 1), (9, 0, "", 0), (2, 9, "abcde", 3), (1, 9, "abcde", 5),
           (1, 3, "abc", 3), (0, 9, "", 1))
 
 
 def taken_in(*arrivals):
-    """What arrivals answer, each a read."""
-    return [f"{told}, {reads} reads" for reads, told in enumerate(arrivals, 1)]
+    """Returns the replies of arrivals, one read for each."""
+    return [f"{reply}, {reads} reads" for reads, reply in enumerate(arrivals, 1)]
 
 
 def of_readers():
@@ -110,24 +110,24 @@ def of_readers():
         "in refused BrokenPipe, 16 reads"))
     whole = [IN % 4, IN % 2, END]
     for fails in (1, 2, 3):
-        told = [*whole[:fails - 1], FAILED, *whole[fails - 1:]]
-        yield Steps(f"read {fails} fails", (1, "abcdef"), (4, fails), (9, 0), "in 9 " * 4, lines(*taken_in(*told)))
+        replies = [*whole[:fails - 1], FAILED, *whole[fails - 1:]]
+        yield Steps(f"read {fails} fails", (1, "abcdef"), (4, fails), (9, 0), "in 9 " * 4, lines(*taken_in(*replies)))
 
 
 def of_writers():
-    """Two buffers of three bytes and of two wait to be sent."""
+    """Yields rows in which two buffers, of three bytes and of two, wait to be sent."""
     waits = [*taken_in(IN % 3, IN % 2), "fd 0", "agg 1", "count 5", "done"]
     for fails, sent, writes in ((1, "", 4), (2, "ab", 4), (3, "abc", 4)):
-        told = [f"out {len(sent)} true, {fails} writes", sent, f"out {5 - len(sent)} false, {writes} writes", "abcde"]
+        replies = [f"out {len(sent)} true, {fails} writes", sent, f"out {5 - len(sent)} false, {writes} writes", "abcde"]
         steps = "in 9 in 9 echo 9 out 9 out 9"
-        yield Steps(f"write {fails} fails", (1, "abcde"), (3, 0), (2, fails), steps, lines(*waits, *told))
-    for most, asked, sent, writes in WRITES:
-        told = [f"out {len(sent)} {'true' if most == 0 else 'false'}, {writes} writes", sent]
-        steps = f"in 9 in 9 echo 9 out {asked}"
-        yield Steps(f"{most} bytes a write, {asked} asked for", (1, "abcde"), (3, 0), (most, 0), steps, lines(*waits, *told))
+        yield Steps(f"write {fails} fails", (1, "abcde"), (3, 0), (2, fails), steps, lines(*waits, *replies))
+    for most, requested, sent, writes in WRITES:
+        replies = [f"out {len(sent)} {'true' if most == 0 else 'false'}, {writes} writes", sent]
+        steps = f"in 9 in 9 echo 9 out {requested}"
+        yield Steps(f"{most} bytes per write, {requested} requested", (1, "abcde"), (3, 0), (most, 0), steps, lines(*waits, *replies))
 
 
 def rows():
-    """All rows, those that take longest first."""
+    """Yields all rows, the longest ones first."""
     for some in (of_scripts, of_server, of_readers, of_writers):
         yield from some()

@@ -1,4 +1,4 @@
-"""What of files is in memory, and which pages are free: docs/RULES.md, Buffers and room, Files and the cache."""
+"""The ranges of files in memory, and the free pages: docs/RULES.md, Buffers and room, Files and the cache."""
 from collections import Counter
 from typing import NamedTuple
 
@@ -20,7 +20,7 @@ class Extent(NamedTuple):
 
 
 class Cache:
-    """Extents by file, L by pool, how often each page was filled, and how often the store was asked."""
+    """The extents by file, L by pool, the generation of each page, and the number of calls of the store."""
 
     def __init__(self):
         self.extents, self.low, self.generations, self.calls = {}, Counter(), Counter(), 0
@@ -58,18 +58,18 @@ class Fault(Exception):
 
 
 class Plan:
-    """What a call would do to pages and to the cache: nothing, before it is committed."""
+    """The effect of a call on pages and on the cache. It takes place only when it is committed."""
 
     def __init__(self, state):
         self.state, self.buffers, self.cache = state, state.buffers, state.cache.copy()
-        self.held = state.held()  # marks of aggregates and queues, and of what the call itself has
+        self.held = state.held()  # marks of aggregates and queues, and of bytes that the call uses
         self.gen_limit = state.gen_limit
 
     def commit(self):
         self.state.cache = self.cache
 
     def marks(self, is_dirty=None):
-        """The marks that are held; of extents only those that are dirty, or all."""
+        """Returns the marks with references, including those of all extents, or only of the dirty ones if `is_dirty` is true."""
         texts = (extent.text for _, extent in self.cache.all() if is_dirty in (None, extent.is_dirty))
         return self.held | {mark for text in texts for mark, _ in text.slices}
 
@@ -78,7 +78,7 @@ class Plan:
         return [page for page in pool.pages if page not in busy and self.cache.generations[page] < self.gen_limit]
 
     def counted(self, pool):
-        """How many pages are free, and how many are retired."""
+        """Returns the number of free pages and of retired pages."""
         unheld = {*pool.pages} - self.buffers.pages_under(self.marks())
         retired = sum(self.cache.generations[page] >= self.gen_limit for page in unheld)
         return len(unheld) - retired, retired
@@ -94,7 +94,7 @@ class Plan:
             self.evict(pool)
 
     def evict(self, pool):
-        """The clean extent goes that nothing else holds, or else any, with the least height, file and offset."""
+        """Evicts a clean extent: first one without another reference, then the least by height, file and offset."""
         others = self.marks(is_dirty=True)
 
         def rank(entry):
@@ -108,7 +108,7 @@ class Plan:
         self.cache.low[pool.number] = victim.height
 
     def place(self, pool, data, is_read=False):
-        """Bytes on the lowest free pages. Those of a file are read from the store, a buffer at a time."""
+        """Places bytes on the lowest free pages. Bytes of a file are read from the store, one buffer at a time."""
         runs, slices, at = runs_of(self.free(pool)[:pages_for(len(data))]), [], 0
         for _ in runs if is_read else ():
             self.ask()
@@ -121,7 +121,7 @@ class Plan:
         return Text(data, tuple(slices))
 
     def ask(self):
-        """One read or write of the store."""
+        """Counts one read or write of the store."""
         self.cache.calls += 1
         if self.cache.calls == self.state.fault:
             raise Fault
@@ -138,7 +138,7 @@ class Plan:
         return Extent(at, text, False, self.height(file, len(text)))
 
     def read(self, file, start, end):
-        """The bytes of a range, hits where they lie, and each gap in a new clean extent."""
+        """Returns the bytes of a range: hits at their places, and each gap in a new clean extent."""
         number, parts, gaps, at = file.number, [], [], start
         for extent in self.cache.of(number):
             first, last = max(extent.at, start), min(extent.end, end)
@@ -160,7 +160,7 @@ class Plan:
         return whole
 
     def fill(self, file, gaps):
-        """Reads gaps from the store. Where it fails, none of them stays."""
+        """Reads gaps from the store. If the store fails, none of them remains in memory."""
         before = self.cache.of(file.number)
         made = []
         try:
@@ -174,7 +174,7 @@ class Plan:
         return made
 
     def write(self, file, at, text):
-        """Bytes over a range: those of the file's pool where they lie, each run of others on new pages."""
+        """Overwrites a range. Bytes of the file's pool keep their places; each run of other bytes gets new pages."""
         groups = self.runs(text, file.pool.number)
         wanted = sum(pages_for(count) for is_own, count in groups if not is_own)
         if wanted:
@@ -184,10 +184,10 @@ class Plan:
             part = text.part(start, start + count)
             new += part if is_own else self.place(file.pool, part.data)
             start += count
-        self.lay(file.number, at, new)
+        self.put_dirty(file.number, at, new)
 
     def runs(self, text, pool):
-        """The runs of bytes that lie in a pool, and those of others: whether they do, and how many they are."""
+        """Returns the runs of bytes inside and outside of a pool: whether they are inside, and their number."""
         runs = []
         for mark, count in text.slices:
             is_own = mark is not None and self.buffers.pools[mark] == pool
@@ -197,8 +197,8 @@ class Plan:
                 runs.append([is_own, count])
         return runs
 
-    def lay(self, file, at, text):
-        """One dirty extent in place of a range; what it meets is cut, and the pieces stay as they were."""
+    def put_dirty(self, file, at, text):
+        """Puts one dirty extent in place of a range. Extents that it overlaps are cut, and the pieces stay clean or dirty."""
         end = at + len(text)
         for extent in self.cache.of(file):
             if extent.at < end and at < extent.end and text:

@@ -1,6 +1,6 @@
-"""The calls of the model but those that read and write, and what happens outside: docs/RULES.md, The calls.
+"""The calls of the model except those that read and write, and the external events: docs/RULES.md, The calls.
 
-What stands behind a `yield` is the change that a call makes where it is answered: see state.py.
+The code after a `yield` is the change that a successful call makes: see state.py.
 """
 from model.state import (
     MAX_BYTES, MAX_CHUNKS, MAX_CONNECTIONS, MAX_DOMAINS, MAX_FILES, MAX_LISTED, MAX_PIPES, MAX_POOLS,
@@ -69,7 +69,7 @@ class Domains(State):
 
 class Aggregates(State):
     def made(self, domain, *texts, given=()):
-        """Answers with new aggregates, for which others are given up."""
+        """Returns new aggregates. The aggregates `given` are removed."""
         number = domain.next_agg
         yield f"agg {number}" if len(texts) == 1 else f"aggs {number} {number + 1}", MEMORY
         for agg in given:

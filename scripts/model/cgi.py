@@ -1,4 +1,4 @@
-"""What a script puts out: docs/SCRIPTS.md, said once more."""
+"""The output of a script: a second description of docs/SCRIPTS.md."""
 
 MOST_BYTES = 32_768
 MOST_NAME_BYTES = 255
@@ -10,7 +10,7 @@ class Private(bytes):
 
 
 def line_of(text):
-    """A line, as its word and the rest, or nothing where it is none."""
+    """Returns the word and the rest of a line, or None if it is no line of a script."""
     word, space, rest = text.partition(b" ")
     if word in (b"query", b"pause"):
         return None if space else (word, b"")
@@ -22,7 +22,7 @@ def line_of(text):
 
 
 def lines_of(text):
-    """The lines of a script, or nothing where the text is none."""
+    """Returns the lines of a script, or None if the text is no script."""
     try:
         text.decode()
     except UnicodeDecodeError:
@@ -35,20 +35,20 @@ def counts(data):
     return b"%d %d\n" % (data.count(b"\n"), len(data))
 
 
-def of_file(name, files, said):
-    """What is put out of a file, or why it is not."""
+def of_file(name, files, output_of):
+    """Returns the output for a file, or the reason why it has none."""
     if name not in files:
         return b"[NoFile]\n"
-    return b"[Denied]\n" if isinstance(files[name], Private) else said(files[name])
+    return b"[Denied]\n" if isinstance(files[name], Private) else output_of(files[name])
 
 
 def parts(lines, query, files):
-    """What each line puts out."""
-    said = {
+    """Returns the output of each line."""
+    outputs = {
         b"emit": lambda rest: rest + b"\n",
         b"query": lambda _: query + b"\n",
         b"pause": lambda _: b"",
         b"cat": lambda name: of_file(name.decode(), files, lambda data: data),
         b"wc": lambda name: of_file(name.decode(), files, counts),
     }
-    return [said[word](rest) for word, rest in lines]
+    return [outputs[word](rest) for word, rest in lines]

@@ -1,4 +1,4 @@
-"""How a stream of requests is answered from some files, some of them scripts: docs/HTTP.md, said once more."""
+"""The responses to a stream of requests, from files and scripts: a second description of docs/HTTP.md."""
 import re
 from urllib.parse import unquote_to_bytes
 
@@ -36,7 +36,7 @@ def lined(*lines):
 
 
 def response(code, kind="text/plain", body=None, more=(), closes=False, is_head=False):
-    """A head, and a body unless it is for HEAD. Without one it is that of a refusal."""
+    """Returns a response: a head, and a body unless it is for HEAD. The default body is that of a refusal."""
     body = f"{code} {PHRASES[code]}\n".encode() if body is None else body
     allow = ["Allow: GET, HEAD"] if code == 405 else []
     fields = (f"Content-Type: {kind}", f"Content-Length: {len(body)}", *more, *allow, *["Connection: close"] * closes)
@@ -45,13 +45,13 @@ def response(code, kind="text/plain", body=None, more=(), closes=False, is_head=
 
 
 def chunked(data):
-    """A body in chunks (RFC 9112, section 7.1)."""
+    """Returns a body in chunks (RFC 9112, section 7.1)."""
     pieces = [data[at:at + CHUNK] for at in range(0, len(data), CHUNK)]
     return b"".join(b"%x\r\n%s\r\n" % (len(piece), piece) for piece in [*pieces, b""])
 
 
 def response_in_chunks(data, closes=False, is_head=False, is_old=False):
-    """The response with what a script puts out: to HTTP/1.0 the bytes up to the close."""
+    """Returns the response with the output of a script. For HTTP/1.0 the body is not chunked, and ends with the connection."""
     fields = ["Transfer-Encoding: chunked"] * (not is_old) + ["Connection: close"] * closes
     head = lined("HTTP/1.1 200 OK", "Content-Type: text/plain", *fields, "")
     if is_head:
@@ -71,8 +71,8 @@ def is_utf8(data):
     return True
 
 
-def asked_of(target):
-    """The name of the file that a target is of, and the query, or nothing where it is refused."""
+def file_and_query(target):
+    """Returns the name of the target's file, and the query; None if the target is refused."""
     found = TARGET.fullmatch(target)
     path = (found[1] or (b"" if target.startswith(b"/") else b"/")) if found else b""
     is_absolute = bool(found) and found.start(1) > 0
@@ -87,7 +87,7 @@ def asked_of(target):
 
 
 class Head:
-    """A head, by the grammar: what is looked at of it."""
+    """A head that matches the grammar: the parts that the server uses."""
 
     def __init__(self, found):
         self.method, self.target, minor, fields = found.groups()
@@ -101,7 +101,7 @@ class Head:
         return [value for its, value in self.fields if its == name]
 
     def refusal(self):
-        """The code of the first check that fails, or nothing."""
+        """Returns the code of the first check that fails, or None."""
         hosts = self.values(b"host")
         if not self.is_old and (len(hosts) != 1 or not HOST.fullmatch(hosts[0])):
             return 400
@@ -109,10 +109,10 @@ class Head:
             return 400
         if self.method not in (b"GET", b"HEAD"):
             return 405 if self.method in NOT_SERVED else 501
-        return 400 if asked_of(self.target) is None else None
+        return 400 if file_and_query(self.target) is None else None
 
     def part(self, size):
-        """The part that is asked for of so many bytes, or nothing where it is all."""
+        """Returns the range requested of a body of `size` bytes, or None if the whole body is requested."""
         values = self.values(b"range")
         found = RANGE.fullmatch(values[0]) if len(values) == 1 else None
         if not found or self.is_head or self.values(b"if-range") or size == 0:
@@ -123,20 +123,20 @@ class Head:
         return None if last is not None and last < first else (first, size if last is None else min(last + 1, size))
 
     def script_response(self, parts):
-        """The response of a script whose lines put these out."""
+        """Returns the response of a script whose lines have these outputs."""
         return response_in_chunks(b"".join(parts), self.closes, self.is_head, self.is_old)
 
     def refused(self, code):
-        """The response where the call on what is asked for is refused."""
+        """Returns the response if a call on the requested file is refused."""
         return response(code, closes=self.closes, is_head=self.is_head)
 
-    def asked(self, files):
-        """The name of the file that is asked for, and the query, if there is such a file."""
-        named = None if self.refusal() else asked_of(self.target)
+    def requested(self, files):
+        """Returns the name of the requested file, and the query, or None if there is no such file."""
+        named = None if self.refusal() else file_and_query(self.target)
         return named if named and named[0] in files else None
 
     def file_response(self, name, data):
-        """The response with a file, or with the part of it that is asked for."""
+        """Returns the response with a file, or with the requested part of it."""
         how = {"closes": self.closes, "is_head": self.is_head}
         part = self.part(len(data))
         if part is None:
@@ -148,12 +148,12 @@ class Head:
         return response(206, type_of(name), data[first:end], more, **how)
 
     def answer(self, files):
-        """The response, and whether the connection closes."""
+        """Returns the response, and whether the connection closes."""
         code = self.refusal()
         if code:
             closes = self.closes or code == 400
             return response(code, closes=closes, is_head=self.is_head), closes
-        name, query = asked_of(self.target)
+        name, query = file_and_query(self.target)
         if name not in files:
             return self.refused(404), self.closes
         if isinstance(files[name], cgi.Private):
@@ -166,14 +166,14 @@ class Head:
 
 
 def head_of(text):
-    """A head, if it is one, and has no more fields than may be."""
+    """Returns a head, or None if the text is no head or has too many fields."""
     found = HEAD.fullmatch(text)
     head = Head(found) if found and is_utf8(found[2]) else None
     return head if head and len(head.fields) <= MOST_FIELDS else None
 
 
 def replies(stream, files):
-    """For each request of a stream that ends, in order, its head, if it is one, and its response."""
+    """Yields for each request of a stream that ends, in order, its head (or None if it is no head) and its response."""
     while True:
         window = stream[:WINDOW]
         start = EMPTY_LINES.match(window).end()
@@ -191,5 +191,5 @@ def replies(stream, files):
 
 
 def answer_to(stream, files):
-    """All that is answered to a stream that ends."""
+    """Returns the responses to a stream that ends."""
     return b"".join(text for _, text in replies(stream, files))

@@ -1,7 +1,7 @@
 """The pages of the model: docs/RULES.md, Buffers and room.
 
-The model copies, and yet knows where bytes lie: each has the mark of its buffer, whoever has it, and a buffer is held
-while some byte has its mark. So the model knows which pages are free, whether there is room, and what a report counts.
+The model copies bytes, but each byte has the mark of its buffer in every copy. A buffer has a reference while some byte has its
+mark. So the model knows which pages are free, whether there is room, and the counts of a report.
 """
 import re
 
@@ -10,7 +10,7 @@ POOL = re.compile(r"pool (\d+) pages (\d+) free (\d+) retired (\d+)")
 
 
 class Impossible(Exception):
-    """An answer that the model does not allow."""
+    """A reply that the model does not allow."""
 
 
 def pages_for(count):
@@ -22,7 +22,7 @@ def pages_of(chunks):
 
 
 def runs_of(pages):
-    """The maximal runs of consecutive pages in a chunk."""
+    """Returns the maximal runs of consecutive pages in a chunk."""
     runs = []
     for page in pages:
         if runs and page == runs[-1][-1] + 1 and page % CHUNK_PAGES:
@@ -48,7 +48,7 @@ class Buffers:
 
 
 def check_report(lines, state):
-    """Compares a report with what is there."""
+    """Compares a report with the state."""
     state.return_chunks()
     plan = state.plan()
     *pools, last = lines

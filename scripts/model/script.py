@@ -1,4 +1,4 @@
-"""Reads the lines of a script (docs/RULES.md, Scripts), and compares each reply with what the model allows."""
+"""Reads the lines of a script (docs/RULES.md, Scripts), and compares each reply with those that the model allows."""
 import re
 from collections import Counter
 
@@ -7,10 +7,10 @@ from model.state import MAX_BYTES, Refused
 from model.room import Impossible, check_report
 from model.texts import decode
 from model.traffic import Reading, Writing
-from replaying import Wrong, is_answered
+from replaying import Wrong, has_reply
 
-# What stands behind each name: n is a number of 32 bits, a one of 64, l a list of numbers, d a name, t a text; m is how a
-# file is open, h how a peer closed.
+# The arguments of each call: n is a number of 32 bits, a is one of 64 bits, l is a list of numbers, d is a name, t is a text, m is
+# the mode of an open file, h is how a peer closed.
 CALLS = {
     "domain_new": "", "exit": "", "pool_create": "nl", "pool_close": "n", "pool_admit": "nn", "set_pool": "n",
     "agg_make": "t", "agg_fill": "nt", "agg_dup": "a", "agg_cut": "ann", "agg_split": "an", "agg_join": "aa",
@@ -46,7 +46,7 @@ READ = {
 
 
 def read_line(line):
-    """The name of a line's call, and what it is called with, its domain first. Of a line that is none a `ValueError`."""
+    """Returns the name and the arguments of a line's call, its domain first. Raises `ValueError` if the line is no command."""
     first, has_more, rest = line.partition(b" ")
     name, by, kinds = first, [], OUTSIDE
     if first.isdigit():
@@ -57,7 +57,7 @@ def read_line(line):
     if name not in kinds or has_more and not kinds[name]:
         raise ValueError(line)
     words = rest.split(b" ", len(kinds[name]) - 1) if kinds[name] else []
-    words += [b""] * (len(kinds[name]) - len(words))  # a text that is not given is empty
+    words += [b""] * (len(kinds[name]) - len(words))  # a missing text is empty
     given = [READ[kind](word) for kind, word in zip(kinds[name], words)]
     if name == "agg_fill":
         if given[0] * len(given[1]) > MAX_BYTES + 1:
@@ -67,16 +67,16 @@ def read_line(line):
 
 
 def is_command(line):
-    """Whether a line that is no header is one that has a meaning, or is skipped."""
+    """Returns whether a line that is no header is a command, or is skipped."""
     try:
-        return not is_answered(line) or bool(read_line(line))
+        return not has_reply(line) or bool(read_line(line))
     except ValueError:
         return False
 
 
 class Machine(Domains, Aggregates, Descriptors, Reading, Writing, Outside):
     def step(self, line):
-        """The call of a line, its answer, the late refusals that may come instead, and the change to be made."""
+        """Returns the call of a line, its reply, the late refusals that may come instead, and the change to be made."""
         name, given = read_line(line)
         change = getattr(self, name)(*given)
         try:
@@ -87,7 +87,7 @@ class Machine(Domains, Aggregates, Descriptors, Reading, Writing, Outside):
 
 
 def set_up(lines):
-    """The machine that the headers of a script set up."""
+    """Returns the machine that the headers of a script set up."""
     sizes, slots, fault = (256, 2**32 - 1), {}, 0
     for line in lines:
         name, _, rest = line.partition(b" ")
@@ -103,31 +103,31 @@ def set_up(lines):
 
 
 def committing(plan):
-    """The change that is what a refusal leaves."""
+    """The change that a refusal makes: it commits the plan."""
     plan.commit()
     yield
 
 
 def answer_to(line, replies):
-    """The lines that answer a line. A report has one for each pool, and a last one."""
+    """Returns the lines of the reply to a line. A report has one for each pool, and a last one."""
     answer = []
     while not answer or line == b"report" and not answer[-1].startswith("extents "):
         reply = next(replies, None)
         if reply is None:
-            raise Impossible("it must be answered")
+            raise Impossible("there is no reply")
         answer.append(reply)
     return answer
 
 
 class Comparison:
-    """A script's replies beside the model, and what was reached: how often each call was answered, or refused for what.
+    """Compares a script's replies with the model, and counts what was reached: each call that succeeded, and each refusal.
 
-    Where memory is wanted, a reply may say so, and the store in memory may fail. What of files is in memory is not known
-    then, so where there are files the comparison ends.
+    If memory may be short, a reply may report this, and the store in memory may fail. After that the ranges of files in memory are
+    unknown, so the comparison ends if there are files.
     """
 
-    def __init__(self, lines, is_memory_wanted):
-        self.machine, self.reached, self.is_memory_wanted = set_up(lines), Counter(), is_memory_wanted
+    def __init__(self, lines, may_lack_memory):
+        self.machine, self.reached, self.may_lack_memory = set_up(lines), Counter(), may_lack_memory
         self.is_over = False
 
     def take(self, line, answer):
@@ -139,31 +139,31 @@ class Comparison:
         reply = answer[0]
         if reply == wanted:
             next(change or iter(()), None)
-        elif not self.is_memory_wanted or not is_want(reply, late):
-            raise Impossible(f"the model answers {wanted[:200]!r}")
+        elif not self.may_lack_memory or not is_shortage(reply, late):
+            raise Impossible(f"the reply of the model is {wanted[:200]!r}")
         else:
             self.is_over = bool(self.machine.files)
         self.reached[name, reply.split(" ")[1] if reply.startswith("refused ") else "answered"] += 1
 
 
-def is_want(reply, late):
-    """Whether a reply says that memory was wanted, as the call may."""
+def is_shortage(reply, late):
+    """Returns whether a reply reports a lack of memory, and the call may have this reply."""
     return reply.startswith("refused Fault ") or reply == "refused Memory" and "Memory" in late
 
 
-def compare(lines, output, is_memory_wanted=False):
-    """What a script reached. A reply that the model does not allow is `Wrong`."""
-    comparison = Comparison(lines, is_memory_wanted)
+def compare(lines, output, may_lack_memory=False):
+    """Compares the output of a script with the model, and returns what it reached. Raises `Wrong` if a reply is not allowed."""
+    comparison = Comparison(lines, may_lack_memory)
     replies = iter(output.decode().splitlines())
     for number, line in enumerate(lines, 1):
         answer = []
         try:
-            if is_answered(line) and not comparison.is_over:
+            if has_reply(line) and not comparison.is_over:
                 answer = answer_to(line, replies)
                 comparison.take(line, answer)
         except Impossible as it:
-            told = " ".join(answer)[:200]
-            raise Wrong(f"line {number}, {line[:80]!r}, was answered {told!r}: {it}") from it
+            reply = " ".join(answer)[:200]
+            raise Wrong(f"line {number}, {line[:80]!r}, got the reply {reply!r}: {it}") from it
     if not comparison.is_over and next(replies, None) is not None:
         raise Wrong("there are more replies than lines")
     return comparison.reached

@@ -1,8 +1,8 @@
-"""The machine of docs/RULES.md, written from its words: it copies at every call, and yet knows where each byte lies.
+"""The machine of docs/RULES.md, written from its text. It copies at every call, but also knows the place of each byte.
 
-A call checks its refusals in their order, says what it is answered and which late refusals may come instead, and
-then, where it is answered, changes the state: what stands behind a `yield` is carried out only then. Where it wants
-pages, or works on a file, it has a plan (cache.py), which says whether there is room and whether the store fails.
+A call is a generator. It checks its refusals in their order, and yields its reply and the late refusals that may come instead.
+If the call succeeds, the code after the `yield` is executed, which changes the state. If the call needs pages, or works on a file,
+it has a plan (cache.py), which determines whether there is room and whether the store fails.
 """
 from contextlib import contextmanager
 
@@ -19,7 +19,7 @@ MEMORY = frozenset({"Memory"})
 
 
 class Refused(Exception):
-    """A refusal, the late ones that may come in its place, and what it leaves of pages and of the cache."""
+    """A refusal, the late refusals that may come in its place, and the plan of its effect on pages and the cache."""
 
     def __init__(self, refusal, late=NEVER, plan=None):
         super().__init__(refusal)
@@ -142,7 +142,7 @@ class Domain:
 
 
 class State:
-    """What the machine keeps, and how its parts are found."""
+    """The state of the machine, with functions that find its parts."""
 
     def __init__(self, chunks, gen_limit, slots, fault):
         self.chunks, self.gen_limit, self.slots, self.fault = chunks, gen_limit, slots, fault
@@ -170,11 +170,11 @@ class State:
         return domain in self.pools[self.buffers.pools[mark]].names
 
     def barred(self, domain, text):
-        """The pool of the first byte that the domain may not read, or nothing."""
+        """Returns the pool of the first byte that the domain may not read, or None."""
         return next((self.buffers.pools[mark] for mark, _ in text.slices if not self.may_read(domain, mark)), None)
 
     def admitted(self, domain, text):
-        """The longest beginning that the domain may read."""
+        """Returns the longest beginning of a text that the domain may read."""
         end = 0
         for mark, count in text.slices:
             if not self.may_read(domain, mark):
@@ -183,7 +183,7 @@ class State:
         return text.part(0, end)
 
     def held(self):
-        """The marks that the bytes of aggregates and queues have."""
+        """Returns the marks of the bytes of aggregates and queues."""
         texts = [text for conn in self.conns.values() for text in (conn.unread, conn.unsent)]
         for domain in self.domains.values():
             texts += domain.aggs.values()
@@ -191,7 +191,7 @@ class State:
         return {mark for text in texts for mark, _ in text.slices}
 
     def return_chunks(self):
-        """Closed pools in which nothing lies give their chunks back."""
+        """Returns the chunks of closed pools that contain no bytes."""
         closed = [pool for pool in self.pools.values() if pool.is_closed and not pool.is_returned]
         if closed:
             held = {self.buffers.pools[mark] for mark in self.held()}
@@ -208,7 +208,7 @@ class State:
 
     @contextmanager
     def planned(self, pool=None, file=None, late=MEMORY):
-        """A plan for pages of a pool, or for a file, which is refused where there is no room or the store fails."""
+        """A context with a plan for pages of a pool, or for a file. The call is refused if there is no room or the store fails."""
         plan = self.plan()
         try:
             yield plan
@@ -218,14 +218,14 @@ class State:
             raise Refused(f"Fault file {file}", late, plan) from None
 
     def placed(self, pool, data):
-        """Bytes on new pages, and the plan of that."""
+        """Returns bytes on new pages, and the plan that places them."""
         with self.planned(pool) as plan:
             if data:
                 plan.make_room(pool, pages_for(len(data)))
             return plan.place(pool, data), plan
 
     def written_back(self, dirty):
-        """Extents of a file are written back, in order, up to the first fault."""
+        """Writes back extents of a file, in order, up to the first fault."""
         with self.planned(file=dirty[0][0] if dirty else None, late=NEVER) as plan:
             for file, extent in dirty:
                 plan.write_back(file, extent)
@@ -237,7 +237,7 @@ class State:
             self.conns.pop(conn.number, None)
 
     def leave(self, open_on):
-        """What the closing of a descriptor does to what it is open on."""
+        """Changes the object of a descriptor that is closed."""
         match open_on:
             case ReadEnd(pipe=pipe):
                 pipe.queue, pipe.is_read = Text(), False

@@ -1,4 +1,4 @@
-"""The texts of scripts, how they are written, and texts that know where they lie."""
+"""The texts of scripts: their notation, and texts with the places of their bytes."""
 from functools import lru_cache
 from urllib.parse import unquote_to_bytes
 
@@ -8,23 +8,23 @@ PRINTED = [b"%c" % byte if byte in PLAIN else b"%%%02X" % byte for byte in range
 
 @lru_cache(256)
 def decode(text):
-    """The bytes of a TEXT: `%` and two hexadecimal digits, of either case, are one."""
+    """Returns the bytes of a TEXT: `%` and two hexadecimal digits, in upper or lower case, are one byte."""
     return unquote_to_bytes(text)
 
 
 def encode(data):
-    """Bytes as a reply prints them, and as a script may name them."""
+    """Returns bytes in the notation of replies, which scripts accept, too."""
     return b"".join(map(PRINTED.__getitem__, data))
 
 
 def checksum(data):
-    """The Internet checksum (RFC 1071)."""
+    """Returns the Internet checksum (RFC 1071)."""
     total = int.from_bytes(data + bytes(len(data) % 2), "big") % 0xFFFF
     return 0 if total == 0 and any(data) else 0xFFFF - total
 
 
 class Text:
-    """Bytes, and the slices that they lie in: of each the mark of its buffer (room.py), and how many bytes it has."""
+    """Bytes with their slices. A slice is the mark of its buffer (room.py) and its number of bytes."""
 
     __slots__ = ("data", "slices")
 

@@ -9,7 +9,7 @@ def shown(word, data):
 
 class Reading(State):
     def readable(self, by, source, count):
-        """What a read of so many bytes gives, and what that does to the cache."""
+        """Returns the bytes of a read of `count` bytes, and the plan of its effect on the cache."""
         if isinstance(source, OpenFile):
             source.file.pool.need_named(by)
             end = min(source.at + count, len(source.file.data))
@@ -49,7 +49,7 @@ class Reading(State):
 
 class Writing(State):
     def taken(self, to, count):
-        """How many of so many bytes are taken."""
+        """Returns how many of `count` bytes a write takes."""
         if isinstance(to, OpenFile):
             return count
         need(not to.is_broken, "BrokenPipe")
@@ -62,7 +62,7 @@ class Writing(State):
             need(to.at + count <= MAX_BYTES, "TooLong")
 
     def into_file(self, to, text):
-        """A write of so many bytes to a file."""
+        """Writes bytes to a file."""
         with self.planned(to.file.pool) as plan:
             plan.write(to.file, to.at, text)
         yield f"count {len(text)}", MEMORY
@@ -94,7 +94,7 @@ class Writing(State):
             pool.need_open()
         taken = data[:self.taken(to, len(data))]
         if is_file:
-            yield from self.into_file(to, Text(data, ((None, len(data)),) if data else ()))  # it lies nowhere yet
+            yield from self.into_file(to, Text(data, ((None, len(data)),) if data else ()))  # it has no buffer yet
         else:
             text, plan = self.placed(pool, taken)
             yield f"count {len(taken)}", MEMORY
