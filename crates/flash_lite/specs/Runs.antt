@@ -67,8 +67,8 @@ abbrev pub call_for : Wanted → (script : List ℕ) → (fd : ℕ) → Running 
 call_for w script fd y = next_call (job_for w script) fd w y
 
 -- the call of a step of such a run
-abbrev pub step_call : Wanted → (script : List ℕ) → (fd : ℕ) → Run → Step → Call
-step_call w script fd run step = step_call (job_for w script) fd w run step
+abbrev pub step_call_for : Wanted → (script : List ℕ) → (fd : ℕ) → Run → Step → Call
+step_call_for w script fd run step = step_call (job_for w script) fd w run step
 
 -- the call of a part of the response, as made by a connection in this phase
 abbrev pub part_call_for : (fd : ℕ) → Wanted → Phase → Call

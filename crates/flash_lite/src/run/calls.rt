@@ -6,7 +6,7 @@ ghost use Rattle.flash_laws.specs.Run.Wants.{makes_bytes};
 ghost use Rattle.flash_laws.specs.Run as spec;
 ghost use Rattle.flash_laws.specs.Prelude.{script_text, frame_of, end_around, place_in_frame};
 ghost use Rattle.flash_laws.specs.declared.script_run.TheConstants.{CHUNK_BYTES};
-ghost use Rattle.flash_lite.specs.Runs.{IsPiece, IsSmallRun, IsSmallStep, job_for, step_call};
+ghost use Rattle.flash_lite.specs.Runs.{IsPiece, IsSmallRun, IsSmallStep, job_for, step_call_for};
 
 use crate::conn::request_calls::join_call;
 use crate::conn::send::Following;
@@ -117,7 +117,7 @@ pub(crate) fn step_call(
 ) -> Result<Call, AllocError>
     requires { IsSmallRun run × IsSmallStep step }
     ensures call { IfOk result
-        (λ call. call ≡ step_call (wanted request.now) script.now fd run step) }
+        (λ call. call ≡ step_call_for (wanted request.now) script.now fd run step) }
     ensures wants { OnErr result (makes_bytes step ≡ true) }
 {
     Ok(match step {
