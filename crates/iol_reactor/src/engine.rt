@@ -1,5 +1,5 @@
 //! The clients and the worlds that serve them, for all kinds of sockets.
-ghost use Rattle.std.specs.Prelude.{◌≡◌, [], get_or, None, Some, IfNone, IfSome};
+ghost use Rattle.std.specs.Prelude.{◌≡◌, ◌≤◌, [], get_or, None, Some, IfNone, IfSome};
 ghost use Rattle.iol_reactor.specs.Served.{HasKnownHistory, IsEmpty};
 
 use crate::client::Client;
@@ -126,7 +126,10 @@ impl<S: Socket + Drop, B: Backing + Drop, P: Process, V: Service<B, P>> Engine<S
     }
 
     /// Sets the time; it never goes back.
-    pub fn set_now(&mut self, now: u64) {
+    pub fn set_now(&mut self, now: u64)
+        ensures never_back { self.old.now ≤ self.new.now }
+        ensures reaches { now ≤ self.new.now }
+    {
         self.now = now.max(self.now);
     }
 

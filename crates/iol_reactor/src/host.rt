@@ -1,7 +1,9 @@
 //! A world that serves clients.
-ghost use Rattle.std.specs.Prelude.{◌≡◌, ℕ, [], true, false, IfSome, IsNone};
+ghost use Rattle.std.specs.Prelude.{◌≡◌, ℕ, [], true, false, length, IfSome, IsNone};
+ghost use Rattle.iol_back.specs.Prelude.{IfHonest};
 ghost use Rattle.iol_core.specs.Prelude.{lacks_conn};
 ghost use Rattle.iol_proc.specs.Prelude.{copied};
+ghost use Rattle.iol_proc.specs.World.{CopiedTurnAt, TurnAt, sharing};
 ghost use Rattle.iol_serve.specs.Service.{ProceedsIn, SendsIn};
 ghost use Rattle.iol_sock.specs.Gathers.{IsCalled};
 ghost use Rattle.iol_reactor.specs.Serving.{ArrivesIn, EndsIn, HasServed};
@@ -69,13 +71,18 @@ impl<B: Backing + Drop, P: Process, V: Service<B, P>> Host<B, P, V> {
     }
 
     /// The number of processes.
-    pub fn processes(&self) -> usize {
+    pub fn processes(&self) -> usize
+        ensures { result ≡ length self.now.world.process_slots }
+    {
         self.world.processes()
     }
 
     /// Gives a turn to the process at an index, and returns its activity. None: there is no process
     /// at this index.
     pub fn turn_at(&mut self, place: usize) -> Option<Activity>
+        ensures shared { TurnAt sharing P.turns self.old.world place result self.new.world }
+        ensures run { IfHonest self.old.world.machine.disk
+            (CopiedTurnAt P.turns self.old.world place result self.new.world) }
         ensures alone { (c : ℕ) → ProceedsIn P.turns c [] [] false self.old.world self.new.world }
         ensures visits { VisitsStay P.turns V.starts self.old.pool self.old.world self.new.world }
         ensures pool { self.new.pool ≡ self.old.pool }

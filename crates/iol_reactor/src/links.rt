@@ -124,6 +124,7 @@ impl Links {
         ensures same { self.new.table.items ≡ self.old.table.items }
         ensures current { result ≡ true → self.new.generation ≡ self.old.generation + 1 }
         ensures refused { result ≡ false → self.new.generation ≡ self.old.generation }
+        ensures full { result ≡ false → self.old.generation ≡ 18446744073709551615 }
     {
         if self.generation == u64::MAX {
             return false;

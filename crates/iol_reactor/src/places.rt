@@ -1,6 +1,6 @@
 //! The clients in their places, and the worlds that serve them.
 ghost use Rattle.std.specs.Prelude.{◌≡◌, ◌≢◌, ◌<◌, [], length, get_or, None, Some, true, false, IfNone};
-ghost use Rattle.std.specs.Prelude.{IfOk, IfSome};
+ghost use Rattle.std.specs.Prelude.{IfOk, IfSome, ℕ, ◌≤◌, ◌++◌, ◌∷◌, OnOk, OnErr};
 ghost use Rattle.iol_reactor.specs.Connections.{link_at};
 ghost use Rattle.iol_reactor.specs.LinkVisits.{IsOver, serving};
 ghost use Rattle.iol_reactor.specs.Served.{AreFollowed, HasKnownHistory, HasSocketAt, IsEmpty};
@@ -37,7 +37,9 @@ impl<S: Socket + Drop, B: Backing + Drop, P: Process, V: Service<B, P>> Places<S
     }
 
     /// The number of places.
-    pub fn len(&self) -> usize {
+    pub fn len(&self) -> usize
+        ensures { result ≡ length self.now.clients.items }
+    {
         self.clients.len()
     }
 
@@ -78,7 +80,10 @@ impl<S: Socket + Drop, B: Backing + Drop, P: Process, V: Service<B, P>> Places<S
     }
 
     /// Adds a place.
-    pub fn add_place(&mut self) -> Result<(), AllocError> {
+    pub fn add_place(&mut self) -> Result<(), AllocError>
+        ensures added { OnOk result (self.new.clients.items ≡ self.old.clients.items ++ None ∷ []) }
+        ensures err { OnErr result (self.new.clients.items ≡ self.old.clients.items) }
+    {
         self.worlds.add_place()?;
         self.clients.push(None)?;
         Ok(())
@@ -91,6 +96,10 @@ impl<S: Socket + Drop, B: Backing + Drop, P: Process, V: Service<B, P>> Places<S
         requires accepted { IsEmpty (S.accepted socket) }
         ensures admits { slot < length self.old.clients.items → HasSocketAt socket slot
             self.new.clients.items }
+        ensures others { (j : ℕ) → j ≢ slot
+            → get_or self.new.clients.items j None ≡ get_or self.old.clients.items j None }
+        ensures past { length self.old.clients.items ≤ slot →
+            self.new.clients.items ≡ self.old.clients.items }
     {
         self.worlds.release(slot);
         if slot < self.clients.len() {
@@ -102,6 +111,9 @@ impl<S: Socket + Drop, B: Backing + Drop, P: Process, V: Service<B, P>> Places<S
     pub fn remove(&mut self, slot: usize) -> Option<Client<S>>
         ensures client { result ≡ get_or self.old.clients.items slot None }
         ensures removed { get_or self.new.clients.items slot None ≡ None }
+        ensures others { (j : ℕ) → j ≢ slot
+            → get_or self.new.clients.items j None ≡ get_or self.old.clients.items j None }
+        ensures worlds { self.new.worlds ≡ self.old.worlds }
         ensures history { IfSome result (λ c. HasKnownHistory P.turns V.starts V.frames
             self.old.worlds.pool S.supplied S.accepted c) }
     {
@@ -121,7 +133,9 @@ impl<S: Socket + Drop, B: Backing + Drop, P: Process, V: Service<B, P>> Places<S
 
     /// Gives a turn to the process at an index, and returns its activity, as with
     /// [`Worlds::turn_at`].
-    pub fn turn_at(&mut self, place: usize) -> Option<Activity> {
+    pub fn turn_at(&mut self, place: usize) -> Option<Activity>
+        ensures { self.new.clients ≡ self.old.clients }
+    {
         self.worlds.turn_at(place)
     }
 

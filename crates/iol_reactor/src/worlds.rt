@@ -1,8 +1,9 @@
 //! The world for new requests, and the one in which earlier requests finish.
 ghost use Rattle.std.specs.Prelude.{◌≡◌, Bool, ◌++◌, ◌∷◌, ◌+◌, ◌==◌, List, ℕ, [], None, Some, true};
-ghost use Rattle.std.specs.Prelude.{false, IfSome, IsNone, is_some, set, OnErr, OnOk};
+ghost use Rattle.std.specs.Prelude.{false, IfSome, IsNone, is_some, set, OnErr, OnOk, length, ◌<◌, ◌≤◌};
 ghost use Rattle.std.proofs.Props.{props};
 ghost use Rattle.std.specs.Io.KnownBytes.{Appends};
+ghost use Rattle.iol_proc.specs.World.{TurnAt, sharing};
 ghost use Rattle.iol_sock.specs.Gathers.{IsCalled};
 ghost use Rattle.iol_reactor.specs.Connections.{link_at};
 ghost use Rattle.iol_reactor.specs.Visits.{HasVisited};
@@ -231,6 +232,19 @@ impl<B: Backing + Drop, P: Process, V: Service<B, P>> Worlds<B, P, V> {
     /// Gives a turn to the process at an index, and returns its activity. The processes of the
     /// current world come first. None: there is no process at this index.
     pub fn turn_at(&mut self, place: usize) -> Option<Activity>
+        ensures current { place < length self.old.current.world.process_slots →
+            TurnAt sharing P.turns self.old.current.world place result self.new.current.world }
+        ensures retiring_stays { place < length self.old.current.world.process_slots →
+            self.new.retiring ≡ self.old.retiring }
+        ensures retiring { length self.old.current.world.process_slots ≤ place →
+            IfSome self.old.retiring (λ h. IfSome self.new.retiring (λ k.
+            (n : ℕ) × (place ≡ length self.old.current.world.process_slots + n)
+            × TurnAt sharing P.turns h.world n result k.world)) }
+        ensures retiring_remains { is_some self.new.retiring ≡ is_some self.old.retiring }
+        ensures current_stays { length self.old.current.world.process_slots ≤ place →
+            self.new.current ≡ self.old.current }
+        ensures none { length self.old.current.world.process_slots ≤ place →
+            self.old.retiring ≡ None → result ≡ None }
         ensures links { self.new.links ≡ self.old.links }
         ensures pool { self.new.pool ≡ self.old.pool }
         ensures visits { LinksStay P.turns V.starts self.old.pool
