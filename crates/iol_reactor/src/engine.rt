@@ -197,7 +197,8 @@ impl<S: Socket + Drop, B: Backing + Drop, P: Process, V: Service<B, P>> Engine<S
         Some(slot)
     }
 
-    /// A new client, in the place that `vacancy` gave.
+    /// A new client, in the place that `vacancy` gave. If there is no such place, or no memory for
+    /// its deadline, the socket is dropped.
     pub fn admit(&mut self, socket: S, peer: SocketAddr)
         requires supplied { IsEmpty (S.supplied socket) }
         requires accepted { IsEmpty (S.accepted socket) }

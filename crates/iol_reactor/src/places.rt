@@ -107,7 +107,8 @@ impl<S: Socket + Drop, B: Backing + Drop, P: Process, V: Service<B, P>> Places<S
         }
     }
 
-    /// Removes the client in this place, and returns it. None: the place was empty.
+    /// Removes the client in this place, and returns it; its connection stays in its world. None:
+    /// the place was empty.
     pub fn remove(&mut self, slot: usize) -> Option<Client<S>>
         ensures client { result ≡ get_or self.old.clients.items slot None }
         ensures removed { get_or self.new.clients.items slot None ≡ None }

@@ -112,7 +112,7 @@ impl<B: Backing + Drop, P: Process, V: Service<B, P>> Worlds<B, P, V> {
         self.links.get(slot).is_some()
     }
 
-    /// Whether the client in this place has a connection of the world before.
+    /// Whether the client in this place has a connection of an earlier world.
     pub fn is_outdated(&self, slot: usize) -> bool {
         match self.links.get(slot) {
             Some(link) => !self.links.is_current(link),
@@ -131,7 +131,7 @@ impl<B: Backing + Drop, P: Process, V: Service<B, P>> Worlds<B, P, V> {
     }
 
     /// New requests go to this world from now on, and those in progress finish in the present one.
-    /// No world is retiring.
+    /// No world is retiring. After 2^64 - 1 renewals the new world is dropped, and nothing changes.
     pub fn renew(&mut self, world: World<B, P>)
         requires { V.starts world }
         ensures table { self.new.links.table.items ≡ self.old.links.table.items }
