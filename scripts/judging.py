@@ -32,12 +32,16 @@ def open_goals(output, function):
     return goals
 
 
-def refused_functions(output):
-    """Returns the functions with an open goal, by their names in the crate. There are none if the crate does not compile."""
+def unproved_functions(output):
+    """Returns the functions that are not proved, by their names in the crate. There are none if the crate does not compile."""
     if re.search(r"error\[[\w-]+\]", output):
         return set()
-    names = re.findall(r"^fn \w+::(\S+): (?!proved$)", output, re.MULTILINE)
-    return {name for name in names if open_goals(output, name)}
+    return set(re.findall(r"^fn \w+::(\S+): (?!proved$)", output, re.MULTILINE))
+
+
+def refused_functions(output):
+    """Returns the functions with an open goal, by their names in the crate. There are none if the crate does not compile."""
+    return {name for name in unproved_functions(output) if open_goals(output, name)}
 
 
 def is_named(function, names):
@@ -65,6 +69,15 @@ def outcome_of_all(status, output):
         return "refused", (WHERE.search(output) or [""])[0][:160]
     limit = LIMITS.search(output)
     return ("refused", limit[0]) if status == 3 and limit else ("no verdict", output[-400:])
+
+
+def outcome_of_part(status, output):
+    """Returns the outcome of checking some functions with an edit, as a check of the whole crate would give it, or else that it
+    decides nothing: a word, and details."""
+    where = WHERE.search(output)
+    if status == 1 and where and unproved_functions(output) and not UNREADABLE.search(output):
+        return "refused", where[0][:160]
+    return "not decided", ""
 
 
 def outcome(edit, status, output):

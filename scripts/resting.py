@@ -1,0 +1,32 @@
+"""Counts the lines of the proofs that the proof of a function rests on, within its crate."""
+import functools
+import glob
+import os
+import re
+
+import tree
+
+
+def files_of(room, module):
+    """Returns the files of `proofs` that hold a module: its own, or for one that the prover makes those of its function."""
+    own = f"{room}/proofs/{module}.antt"
+    return [own] if os.path.isfile(own) else glob.glob(f"{room}/proofs/{os.path.dirname(module)}/*.antt")
+
+
+@functools.cache
+def imported(name, room, path):
+    """Returns the files of `proofs` that a file of a crate imports."""
+    modules = re.findall(rf"^use Rattle\.{name}\.proofs\.([\w.+]+?)(?:\.\{{|\s|$)", tree.read(path), re.MULTILINE)
+    return {file for module in modules for file in files_of(room, module.replace(".", "/"))}
+
+
+@functools.cache
+def lines_below(name, room, function):
+    """Returns the number of lines of the proof of a function and of all that it imports, in the folder `room` of its crate."""
+    found, left = set(), files_of(room, f"{function.replace('::', '/')}/Answers")
+    while left:
+        path = left.pop()
+        if path not in found:
+            found.add(path)
+            left.extend(imported(name, room, path))
+    return sum(tree.read(path).count("\n") for path in found)
