@@ -56,13 +56,22 @@ def function_at(room, file, old):
     found = [name for begin, end, name in bodies(text) if begin < first and last < end]
     if not found:
         return None
+    return in_module(file, found[-1])
+
+
+def in_module(file, name):
+    """Returns the name of a function of a file with its module, unless it has its type."""
     module = "".join(f"{part}::" for part in file[len("src/") : -len(".rt")].split("/") if part not in ("lib", "main"))
-    return found[-1] if "::" in found[-1] else module + found[-1]
+    return name if "::" in name else module + name
+
+
+def is_import(text):
+    return text.startswith("use ") and text.endswith(";")
 
 
 def functions_of(room, edit):
-    """Returns the functions that an edit changes; the empty set if it also changes text outside of bodies."""
-    found = {function_at(room, file, old) for file, old, _ in edit.changes}
+    """Returns the functions that an edit changes; the empty set if it also changes text outside of bodies that is no import."""
+    found = {function_at(room, file, old) for file, old, new in edit.changes if not (is_import(old) and is_import(new))}
     return frozenset() if None in found else frozenset(found)
 
 

@@ -71,13 +71,14 @@ def outcome_of_all(status, output):
     return ("refused", limit[0]) if status == 3 and limit else ("no verdict", output[-400:])
 
 
-def outcome_of_part(status, output):
+def outcome_of_part(edit, status, output):
     """Returns the outcome of checking some functions with an edit, as a check of the whole crate would give it, or else that it
     decides nothing: a word, and details."""
     where = WHERE.search(output)
-    if status == 1 and where and unproved_functions(output) and not UNREADABLE.search(output):
-        return "refused", where[0][:160]
-    return "not decided", ""
+    if status != 1 or not unproved_functions(output) or UNREADABLE.search(output):
+        return "not decided", ""
+    is_named = edit.goal and any(is_goal(edit.goal, goal) for goal in open_goals(output, edit.function))
+    return ("refused", edit.goal if is_named else where[0][:160]) if is_named or where else ("not decided", "")
 
 
 def outcome(edit, status, output):

@@ -34,6 +34,10 @@ class Prover:
         self.crates = tree.crates(root)
         self.prefix = ()  # words before the command of a check, such as `nice`
 
+    def is_proved(self, name):
+        """Returns whether `rt ci` has proved the current text of a crate and of all below it."""
+        return all(is_proved_by_ci(self.root, it) for it in [name, *tree.below(self.crates, name)])
+
     def make_libraries(self, crates):
         """Makes the libraries of these crates and of all below by `rt lib`, unless `rt ci` left them. Returns those that failed."""
         low = tree.lowest_first(self.crates, crates)

@@ -1,9 +1,10 @@
-"""Counts the lines of the proofs that the proof of a function rests on, within its crate."""
+"""Says what functions of a crate rest on: the lines of their proofs, and the definitions that their contracts import."""
 import functools
 import glob
 import os
 import re
 
+import bodies
 import tree
 
 
@@ -30,3 +31,17 @@ def lines_below(name, room, function):
             found.add(path)
             left.extend(imported(name, room, path))
     return sum(tree.read(path).count("\n") for path in found)
+
+
+def functions_over(name, room, file):
+    """Returns the functions of the files of `src` that import the definitions of a file of `specs`; none for another file."""
+    if not file.startswith("specs/"):
+        return set()
+    module = file.removeprefix("specs/").removesuffix(".antt").replace("/", ".")
+    uses = re.compile(rf"^ghost use Rattle\.{name}\.specs\.{re.escape(module)}\.\{{", re.MULTILINE)
+    found = set()
+    for path in glob.glob(f"{room}/src/**/*.rt", recursive=True):
+        text = tree.read(path)
+        if uses.search(text):
+            found |= {bodies.in_module(path.removeprefix(f"{room}/"), function) for _, _, function in bodies.bodies(text)}
+    return found
