@@ -30,20 +30,26 @@ def owner_of(block):
     return "+".join([block["type"], *(of if set(of) - set(given) else [])]) + f"{block['trait'] or ''}::"
 
 
-def bodies(text):
-    """Yields for each body its first and last line numbers and the function's name, qualified by its type and trait."""
-    lines, owner = text.split("\n"), ""
-    for at, line in enumerate(lines):
+def heads(text):
+    """Yields for each function the number of its first line, its indentation, and its name, qualified by its type and trait."""
+    owner = ""
+    for at, line in enumerate(text.split("\n")):
         block, function = BLOCK.match(line), FUNCTION.match(line)
         if block:
             owner = owner_of(block)
         elif line == "}":
             owner = ""
         elif function:
-            first = head_ends(lines, at, function["indent"])
-            if first is not None:
-                last = lines.index(f"{function['indent']}}}", first)
-                yield first, last, owner + function["name"]
+            yield at, function["indent"], owner + function["name"]
+
+
+def bodies(text):
+    """Yields for each body its first and last line numbers and the function's name, qualified by its type and trait."""
+    lines = text.split("\n")
+    for at, indent, name in heads(text):
+        first = head_ends(lines, at, indent)
+        if first is not None:
+            yield first, lines.index(f"{indent}}}", first), name
 
 
 def function_at(room, file, old):

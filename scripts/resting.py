@@ -1,6 +1,7 @@
 """Says what functions of a crate rest on: the lines of their proofs, and the definitions that their contracts import."""
 import functools
 import glob
+import itertools
 import os
 import re
 
@@ -34,14 +35,17 @@ def lines_below(name, room, function):
 
 
 def functions_over(name, room, file):
-    """Returns the functions of the files of `src` that import the definitions of a file of `specs`; none for another file."""
-    if not file.startswith("specs/"):
-        return set()
+    """Returns the functions whose contracts name a definition that they import from a file of `specs`; none for another file."""
     module = file.removeprefix("specs/").removesuffix(".antt").replace("/", ".")
-    uses = re.compile(rf"^ghost use Rattle\.{name}\.specs\.{re.escape(module)}\.\{{", re.MULTILINE)
+    uses = re.compile(rf"^ghost use Rattle\.{name}\.specs\.{re.escape(module)}\.\{{(.*)\}};$", re.MULTILINE)
     found = set()
-    for path in glob.glob(f"{room}/src/**/*.rt", recursive=True):
+    for path in glob.glob(f"{room}/src/**/*.rt", recursive=True) if file.startswith("specs/") else ():
         text = tree.read(path)
-        if uses.search(text):
-            found |= {bodies.in_module(path.removeprefix(f"{room}/"), function) for _, _, function in bodies.bodies(text)}
+        names = {it.strip() for given in uses.findall(text) for it in given.split(",")}
+        lines, own = text.split("\n"), path.removeprefix(f"{room}/")
+        heads = [*bodies.heads(text)]
+        for (at, _, function), (end, _, _) in zip(heads, [*heads[1:], (len(lines), "", "")]):
+            clauses = itertools.takewhile(lambda it: it.strip() not in ("{", "{}"), lines[at:end])
+            if names & set(re.findall(r"\w+", " ".join(clauses))):
+                found.add(bodies.in_module(own, function))
     return found
