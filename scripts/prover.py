@@ -48,8 +48,9 @@ class Prover:
         return [it for it in low if made[it].returncode]
 
     def words(self, room, name, over):
-        """Returns the arguments of rattle that check a crate in the folder `room`, over the libraries of the crates `over`."""
-        given = ["--crate-name", name, "src/main.rt" if os.path.isfile(f"{room}/src/main.rt") else "src/lib.rt"]
+        """Returns the arguments of rattle that check a crate in the folder `room`, with its tests, over the libraries of the crates `over`."""
+        file = "src/main.rt" if os.path.isfile(f"{room}/src/main.rt") else "src/lib.rt"
+        given = ["--crate-name", name, file, *(["--test"] if "#[cfg(test)]" in tree.read(f"{room}/{file}") else [])]
         for it in ["std", *[it for it in over if it not in self.crates]]:
             given += ["--extern", f"{it}={KIT}/rlibs/{it}.rlib"]
         given += ["-L", f"dependency={KIT}/rlibs"]
