@@ -72,6 +72,7 @@ def in_module(file, name):
 
 
 def is_import(text):
+    """Returns whether a line of an edit is an import, which changes no function by itself."""
     return text.startswith("use ") and text.endswith(";")
 
 
