@@ -1,9 +1,10 @@
 //! The server behind the event loop of `flashd`.
+ghost use Rattle.bench_paper_server.specs.declared.site.TheConstants.{NET_POOL};
+
 use crate::request::{Request, head_len};
 use crate::server::Server;
 use crate::site::{NET_POOL, Site, world};
 use iol_back::memory::MemoryBacking;
-use iol_core::numbers::PoolId;
 use iol_core::refusals::Refusal;
 use iol_proc::world::World;
 use iol_reactor::limits::Limits;
@@ -37,6 +38,10 @@ impl Files {
 }
 
 impl Service<MemoryBacking, Server> for Files {
+    const POOL: u32 = NET_POOL;
+
+    ghost POOL = { NET_POOL };
+
     fn frame(&self, alloc: Global, bytes: &[u8]) -> Result<Frame, AllocError> {
         let _ = alloc;
         let Some(length) = head_len(bytes) else {
@@ -95,8 +100,7 @@ pub fn serve(rt: &HostRuntime, site: &Site, clients: u32) -> io::Result<()> {
     };
     let lengths = site.lengths.clone()?;
     let world = host(rt, site)?;
-    let pool = PoolId::new(NET_POOL);
-    let mut reactor = Reactor::new(rt, rt.alloc(), address, pool, world, limits)?;
+    let mut reactor = Reactor::new(rt, rt.alloc(), address, world, limits)?;
     let mut service = Files { lengths };
     let served = serve_clients(rt, &mut service, &mut reactor);
     drop(reactor);

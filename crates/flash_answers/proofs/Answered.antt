@@ -136,10 +136,11 @@ module _ (starts : Stage SystemState (Actor Worker) → Type 0) (frames : List �
 
 client_answered : ClientsAreAnswered
     → {S : Type 0} (supplied accepted : S → Option (List ℕ)) (starts : Stage SystemState (Actor Worker)
-    → Type 0) (frames : List ℕ → Frame → Type 0) → ServesSites starts frames → (pool : ℕ) (c : Client S)
+    → Type 0) (frames : List ℕ → Frame → Type 0) → ServesSites starts frames → (pool : ℕ) → pool ≡ net_pool
+    → (c : Client S)
     → HasKnownHistory (actor_turns in_rounds worker_turns) starts frames pool supplied accepted c
-    → IsAnsweredClient supplied accepted pool c
-client_answered law supplied accepted starts frames sites pool c history = λ known net.
+    → IsAnsweredClient supplied accepted c
+client_answered law supplied accepted starts frames sites pool net c history = λ known.
     history_answers starts frames sites law supplied accepted c
     (subst (λ (k : ℕ). ∥ HasHistory (actor_turns in_rounds worker_turns) starts frames k supplied accepted c ∥₁) net
     (history known))
@@ -147,11 +148,11 @@ client_answered law supplied accepted starts frames sites pool c history = λ kn
 -- the same for a client that was found
 pub found_answered : ClientsAreAnswered
     → {R S : Type 0} (supplied accepted : S → Option (List ℕ)) (starts : Stage SystemState (Actor Worker)
-    → Type 0) (frames : List ℕ → Frame → Type 0) → ServesSites starts frames → (pool : ℕ) (now : R → Client S)
-    (found : Option R)
+    → Type 0) (frames : List ℕ → Frame → Type 0) → ServesSites starts frames → (pool : ℕ) → pool ≡ net_pool
+    → (now : R → Client S) (found : Option R)
     → IfSome found (λ k. HasKnownHistory (actor_turns in_rounds worker_turns) starts frames pool supplied accepted
     (now k))
-    → IfSome found (λ k. IsAnsweredClient supplied accepted pool (now k))
-found_answered law supplied accepted starts frames sites pool now None known = tt
-found_answered law supplied accepted starts frames sites pool now (Some k) known =
-    client_answered law supplied accepted starts frames sites pool (now k) known
+    → IfSome found (λ k. IsAnsweredClient supplied accepted (now k))
+found_answered law supplied accepted starts frames sites pool net now None known = tt
+found_answered law supplied accepted starts frames sites pool net now (Some k) known =
+    client_answered law supplied accepted starts frames sites pool net (now k) known

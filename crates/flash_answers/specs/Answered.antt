@@ -8,7 +8,6 @@ use Rattle.iol_reactor.specs.declared.client.Phase.TheVariants.{Closing}
 use Rattle.iol_reactor.specs.declared.service.Frame.{Frame}
 use Rattle.flash_cgi.specs.declared.worker.Worker.{Worker}
 use Rattle.flash_framing.specs.Framing.{Framed}
-use Rattle.flash_laws.specs.Site.{net_pool}
 use Rattle.flash_laws.specs.World.Consistency.{Actor}
 use Rattle.flash_site.specs.World.{BeginsSite}
 use Rattle.flash_answers.specs.Clients.{IsAnswered, IsBegun}
@@ -28,7 +27,6 @@ pub record HasAnswers {S : Type 0} (supplied accepted : S → Option (List ℕ))
   pub whole : (from to : List ℕ) → supplied c.socket ≡ Some from → accepted c.socket ≡ Some to → c.phase ≡ Closing
       → IsTrue c.is_whole → ∥ IsAnswered from to ∥₁
 
--- The same for sockets of a type whose bytes are known, if the bytes that arrive are placed in the pool of the net.
-abbrev pub IsAnsweredClient : {S : Type 0} → (supplied accepted : S → Option (List ℕ)) (pool : ℕ) → Client S → Type 0
-IsAnsweredClient supplied accepted pool c = AreKnown supplied accepted → pool ≡ net_pool
-    → HasAnswers supplied accepted c
+-- The same for sockets of a type whose bytes are known.
+abbrev pub IsAnsweredClient : {S : Type 0} → (supplied accepted : S → Option (List ℕ)) → Client S → Type 0
+IsAnsweredClient supplied accepted c = AreKnown supplied accepted → HasAnswers supplied accepted c

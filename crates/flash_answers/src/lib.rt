@@ -6,6 +6,7 @@
 #![tactic(auto)]
 
 ghost use Rattle.std.specs.Prelude.{◌≡◌, get_or, None, Some, IfNone, IfSome};
+ghost use Rattle.flash_laws.specs.Site.{net_pool};
 ghost use Rattle.flash_answers.specs.Answered.{IsAnsweredClient, ServesSites};
 ghost use Rattle.flash_answers.specs.Clients.{ClientsAreAnswered};
 ghost use Rattle.flash_answers.specs.Sites.{SitesAnswer};
@@ -49,13 +50,15 @@ pub fn clients_are_answered()
 /// A service over worlds of sites with honest stores, whose requests are those of HTTP.
 pub trait HonestSites<B: Backing>: Service<B, Actor> {
     ghost serves: { ServesSites Self.starts Self.frames };
+
+    // The bytes that arrive are placed in the pool of the net.
+    ghost net: { Self.POOL ≡ net_pool };
 }
 
 /// The client in this place of an event loop that serves sites over honest stores. If the bytes of
-/// its sockets are known, and the bytes that arrive are placed in the pool of the net, then the
-/// bytes that the client's socket accepted are a prefix of an answer to those that it supplied, by
-/// some sites in turn. They are an answer if its output was ended after its requests were answered
-/// to the end.
+/// its sockets are known, then the bytes that the client's socket accepted are a prefix of an
+/// answer to those that it supplied, by some sites in turn. They are an answer if its output was
+/// ended after its requests were answered to the end.
 pub fn client<'a, S: Socket + Drop, B: Backing + Drop, V: HonestSites<B>>(
     engine: &'a Engine<S, B, Actor, V>,
     slot: usize,
@@ -64,8 +67,7 @@ pub fn client<'a, S: Socket + Drop, B: Backing + Drop, V: HonestSites<B>>(
         (λ c. get_or engine.entry.now.places.clients.items slot None ≡ Some c.now) }
     ensures none { IfNone result
         (get_or engine.entry.now.places.clients.items slot None ≡ None) }
-    ensures answers { IfSome result (λ c. IsAnsweredClient S.supplied S.accepted
-        engine.entry.now.places.worlds.pool c.now) }
+    ensures answers { IfSome result (λ c. IsAnsweredClient S.supplied S.accepted c.now) }
 {
     clients_are_answered();
     engine.client(slot)

@@ -7,10 +7,8 @@ use crate::fault::{Fault, ended};
 use crate::folder::world_of;
 use crate::service::FolderService;
 use flash_lite::actor::Actor;
-use flash_lite::layout::NET_POOL;
 use iol_back::backing::Backing;
 use iol_back::folder::FolderBacking;
-use iol_core::numbers::PoolId;
 use iol_reactor::limits::Limits;
 use iol_reactor::reactor::Reactor;
 use iol_reactor::service::Service;
@@ -89,8 +87,7 @@ impl<R: Files + Drop> Server<FolderBacking<R>, FolderService> {
     {
         let world = world_of(rt, root)?;
         let address = SocketAddr::from((Ipv4Addr::LOCALHOST, port));
-        let pool = PoolId::new(NET_POOL);
-        match Reactor::new(rt, rt.alloc(), address, pool, world, limits_of(count)) {
+        match Reactor::new(rt, rt.alloc(), address, world, limits_of(count)) {
             Ok(reactor) => Ok(Server { reactor }),
             Err(e) => Err(Fault::of(&e, Fault::Listen)),
         }

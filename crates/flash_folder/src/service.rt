@@ -1,6 +1,9 @@
 //! A folder, as a service of the event loop.
+ghost use Rattle.flash_lite.specs.declared.layout.TheConstants.{NET_POOL};
+
 use flash_framing::{frame_of, progress_of};
 use flash_lite::actor::Actor;
+use flash_lite::layout::NET_POOL;
 use iol_back::folder::FolderBacking;
 use iol_proc::world::World;
 use iol_reactor::service::{Exchange, Frame, Progress, Service};
@@ -13,6 +16,10 @@ use std::rt::Files;
 pub struct FolderService;
 
 impl<R: Files> Service<FolderBacking<R>, Actor> for FolderService {
+    const POOL: u32 = NET_POOL;
+
+    ghost POOL = { NET_POOL };
+
     fn frame(&self, alloc: Global, bytes: &[u8]) -> Result<Frame, AllocError> {
         frame_of(alloc, bytes)
     }

@@ -6,10 +6,8 @@ use crate::options::Options;
 use crate::service::SiteService;
 use crate::storage::{Anywhere, InMemory, Storage};
 use flash_lite::actor::Actor;
-use flash_lite::layout::NET_POOL;
 use flash_log::log::AccessLog;
 use flash_site::source::{Loaded, Source};
-use iol_core::numbers::PoolId;
 use iol_reactor::reactor::Reactor;
 use iol_tree::backing::TreeBacking;
 use mio::net::TcpListener;
@@ -70,8 +68,7 @@ fn serve_loaded<W: Write + Drop, K: Storage>(
     requires { K.IN_MEMORY ≡ true → loaded.summary.is_in_memory ≡ true }
 {
     let Loaded { world, summary } = loaded;
-    let pool = PoolId::new(NET_POOL);
-    let mut reactor = Reactor::new(rt, rt.alloc(), options.listen, pool, world, options.limits)?;
+    let mut reactor = Reactor::new(rt, rt.alloc(), options.listen, world, options.limits)?;
     let service = SiteService::<_, _, K>::new(rt, options.root, source, summary, log);
     let served = serve_clients(rt, service, &mut reactor);
     drop(reactor);

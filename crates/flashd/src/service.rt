@@ -1,6 +1,7 @@
 //! A site, as a service of the event loop.
 ghost use Rattle.std.specs.Prelude.{IfOk, IfSome, refl};
 ghost use Rattle.flash_framing.specs.Framing.{Framed};
+ghost use Rattle.flash_lite.specs.declared.layout.TheConstants.{NET_POOL};
 ghost use Rattle.flash_site.specs.World.{BeginsSiteIn};
 
 use crate::notices::{tell_outgrown, tell_site};
@@ -8,6 +9,7 @@ use crate::storage::{InMemory, Storage};
 use flash_answers::HonestSites;
 use flash_framing::{frame_of, progress_of};
 use flash_lite::actor::Actor;
+use flash_lite::layout::NET_POOL;
 use flash_log::dates::log_date;
 use flash_log::heads::{head_length, request_line, status_of};
 use flash_log::lines::Entry;
@@ -170,6 +172,10 @@ where
     W: Write + Drop,
     K: Storage,
 {
+    const POOL: u32 = NET_POOL;
+
+    ghost POOL = { NET_POOL };
+
     // The world of a site, in which nothing has happened yet: the server's laws begin with such a
     // world, over an honest store.
     ghost starts = { BeginsSiteIn K.IN_MEMORY };
@@ -209,4 +215,6 @@ where
       honest = λ world begun. begun.honest refl;
       framed = λ bytes frame framed. framed;
     } };
+
+    ghost net = { refl };
 }

@@ -1,5 +1,5 @@
 -- The bytes and the connections of a client, step by step.
-use Rattle.std.proofs.Common.{◌≡◌, ◌∙◌, ◌≤◌, ◌-◌, ◌+◌, ℕ, Bool, false, List, [], ◌∷◌, ◌++◌, length, min, take}
+use Rattle.std.proofs.Common.{◌≡◌, ◌∙◌, ◌≤◌, ◌-◌, ℕ, Bool, false, List, [], ◌∷◌, ◌++◌, length, take}
 use Rattle.std.proofs.Common.{drop, map, Option, None, Some, refl, sym, ap, subst, arith, append_assoc, append-nil}
 use Rattle.std.specs.List.{AllByRecursion, concat}
 use Rattle.std.proofs.Math.Seq.{take-length}
@@ -10,7 +10,7 @@ use Rattle.iol_proc.specs.World.{Stage}
 use Rattle.iol_reactor.specs.Bytes.{IsGiven}
 use Rattle.iol_reactor.specs.Clients.{AreWhole, BytesMove, ConnectionsFollow, Holds, IsAsking, IsDone, IsLeft}
 use Rattle.iol_reactor.specs.Clients.{Request, Visit, WereLeft, bytes_of}
-use Rattle.iol_reactor.specs.LinkVisits.{HasLinkVisited, IsOver, IsOverIn, IsVisitOf, LinkProceeds, Serving}
+use Rattle.iol_reactor.specs.LinkVisits.{HasLinkVisited, IsOverIn, IsVisitOf, LinkProceeds, Serving}
 use Rattle.iol_reactor.specs.LinkVisits.{world_of}
 use Rattle.iol_reactor.specs.declared.input.Input.{Input}
 use Rattle.iol_reactor.specs.declared.links.Link.{Link}

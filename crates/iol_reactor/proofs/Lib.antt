@@ -7,3 +7,4 @@ pub mod Clients
 pub mod LinkVisits
 pub mod Served
 pub mod Passing
+pub mod Ordered

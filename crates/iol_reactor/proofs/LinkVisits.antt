@@ -6,6 +6,9 @@ use Rattle.std.proofs.lemmas.Bool.Decides.{nat_tests}
 use Rattle.iol_system.specs.Machine.{SystemState}
 use Rattle.iol_proc.specs.Turns.{TransitionRelation}
 use Rattle.iol_proc.specs.World.{Stage}
+use Rattle.iol_core.specs.declared.descriptors.How.{How}
+use Rattle.iol_reactor.specs.LinkSteps.{ReportsEnd, ReportsEndIn}
+use Rattle.iol_reactor.specs.Serving.{EndsIn}
 use Rattle.iol_reactor.specs.Visits.{VisitsAdvance, VisitsStay}
 use Rattle.iol_reactor.specs.LinkVisits.{HasLinkVisited, IsVisitOf, LinkProceeds, LinksStay, Serving, SlotProceeds}
 use Rattle.iol_reactor.specs.declared.links.Link.{Link}
@@ -218,28 +221,27 @@ module _ {P : Type 0} (turns : TransitionRelation P) (starts : Stage SystemState
   slot_same pool s None = links_same turns starts pool s
   slot_same pool s (Some d) = link_same turns starts pool s d
 
-  pub slot_current : (pool q n : ℕ) (w after : Stage SystemState P) (before : Option (Stage SystemState P))
-      (o : Option Link) (d : Link) (e : ℕ) (more next : List ℕ) (last : Bool) → o ≡ Some d → e ≡ d.conn → q ≡ pool
-      → (d.generation == n) ≡ true → VisitsAdvance turns starts q e more next last w after
+  pub slot_current : (pool n : ℕ) (w after : Stage SystemState P) (before : Option (Stage SystemState P))
+      (o : Option Link) (d : Link) (e : ℕ) (more next : List ℕ) (last : Bool) → o ≡ Some d → e ≡ d.conn
+      → (d.generation == n) ≡ true → VisitsAdvance turns starts pool e more next last w after
       → SlotProceeds turns starts pool o more next last (record { number = n; current = w; before = before })
       (record { number = n; current = after; before = before })
-  slot_current pool q n w after before o d e more next last has same own is goes =
+  slot_current pool n w after before o d e more next last has same is goes =
       subst
       (λ (x : Option Link). SlotProceeds turns starts pool x more next last
       (record { number = n; current = w; before = before })
       (record { number = n; current = after; before = before })) (sym has)
       (link_current turns starts pool n w after before d more next last is
-      (subst (λ (k : ℕ). VisitsAdvance turns starts pool k more next last w after) same
-      (subst (λ (k : ℕ). VisitsAdvance turns starts k e more next last w after) own goes)))
+      (subst (λ (k : ℕ). VisitsAdvance turns starts pool k more next last w after) same goes))
 
-  pub slot_before : (pool q n : ℕ) (w u after : Stage SystemState P) (before : Option (Stage SystemState P))
-      (o : Option Link) (d : Link) (e : ℕ) (more next : List ℕ) (last : Bool) → o ≡ Some d → e ≡ d.conn → q ≡ pool
+  pub slot_before : (pool n : ℕ) (w u after : Stage SystemState P) (before : Option (Stage SystemState P))
+      (o : Option Link) (d : Link) (e : ℕ) (more next : List ℕ) (last : Bool) → o ≡ Some d → e ≡ d.conn
       → before ≡ Some u
       → (d.generation == n) ≡ false → (d.generation + 1 == n) ≡ true
-      → VisitsAdvance turns starts q e more next last u after
+      → VisitsAdvance turns starts pool e more next last u after
       → SlotProceeds turns starts pool o more next last (record { number = n; current = w; before = before })
       (record { number = n; current = w; before = Some after })
-  slot_before pool q n w u after before o d e more next last has same own there off is goes =
+  slot_before pool n w u after before o d e more next last has same there off is goes =
       subst (λ (b : Option (Stage SystemState P)). SlotProceeds turns starts pool o more next last
       (record { number = n; current = w; before = b }) (record { number = n; current = w; before = Some after }))
       (sym there)
@@ -248,5 +250,71 @@ module _ {P : Type 0} (turns : TransitionRelation P) (starts : Stage SystemState
       (record { number = n; current = w; before = Some u })
       (record { number = n; current = w; before = Some after })) (sym has)
       (link_before turns starts pool n w u after d more next last off is
-      (subst (λ (k : ℕ). VisitsAdvance turns starts pool k more next last u after) same
-      (subst (λ (k : ℕ). VisitsAdvance turns starts k e more next last u after) own goes))))
+      (subst (λ (k : ℕ). VisitsAdvance turns starts pool k more next last u after) same goes)))
+
+-- ---- the end of a peer is reported
+
+module _ {P : Type 0} (turns : TransitionRelation P) where
+  ends_current : (b e : Bool) (w after : Stage SystemState P) (before : Option (Stage SystemState P)) (c : ℕ) (how : How)
+      → b ≡ true → EndsIn turns c how w after
+      → ReportsEndIn turns (which b e w before) (which b e after before) c how
+  ends_current true e w after before c how is ends = ends
+  ends_current false e w after before c how is ends = absurd (cc (is))
+
+  ends_before : (b e : Bool) (w u after : Stage SystemState P) (c : ℕ) (how : How) → b ≡ false → e ≡ true
+      → EndsIn turns c how u after
+      → ReportsEndIn turns (which b e w (Some u)) (which b e w (Some after)) c how
+  ends_before false true w u after c how off is ends = ends
+  ends_before false false w u after c how off is ends = absurd (cc (is))
+  ends_before true e w u after c how off is ends = absurd (cc (off))
+
+  ends_nowhere : (b e : Bool) (w : Stage SystemState P) (before : Option (Stage SystemState P)) (c : ℕ) (how : How)
+      → b ≡ false → (e ≡ true → before ≡ None)
+      → ReportsEndIn turns (which b e w before) (which b e w before) c how
+  ends_nowhere true e w before c how off none = absurd (cc (off))
+  ends_nowhere false false w before c how off none = tt
+  ends_nowhere false true w before c how off none =
+      subst (λ (k : Option (Stage SystemState P)). ReportsEndIn turns k k c how) (sym (none refl)) tt
+
+  pub reports_current : (how : How) (n : ℕ) (w after : Stage SystemState P) (before : Option (Stage SystemState P))
+      (o : Option Link) (d : Link) (e : ℕ) → o ≡ Some d → e ≡ d.conn → (d.generation == n) ≡ true
+      → EndsIn turns e how w after
+      → ReportsEnd turns o how (record { number = n; current = w; before = before })
+      (record { number = n; current = after; before = before })
+  reports_current how n w after before o d e has same is ends =
+      subst
+      (λ (x : Option Link). ReportsEnd turns x how (record { number = n; current = w; before = before })
+      (record { number = n; current = after; before = before })) (sym has)
+      (ends_current (d.generation == n) (d.generation + 1 == n) w after before d.conn how is
+      (subst (λ (k : ℕ). EndsIn turns k how w after) same ends))
+
+  pub reports_before : (how : How) (n : ℕ) (w u after : Stage SystemState P) (before : Option (Stage SystemState P))
+      (o : Option Link) (d : Link) (e : ℕ) → o ≡ Some d → e ≡ d.conn → before ≡ Some u
+      → (d.generation == n) ≡ false → (d.generation + 1 == n) ≡ true → EndsIn turns e how u after
+      → ReportsEnd turns o how (record { number = n; current = w; before = before })
+      (record { number = n; current = w; before = Some after })
+  reports_before how n w u after before o d e has same there off is ends =
+      subst
+      (λ (b : Option (Stage SystemState P)). ReportsEnd turns o how (record { number = n; current = w; before = b })
+      (record { number = n; current = w; before = Some after })) (sym there)
+      (subst
+      (λ (x : Option Link). ReportsEnd turns x how (record { number = n; current = w; before = Some u })
+      (record { number = n; current = w; before = Some after })) (sym has)
+      (ends_before (d.generation == n) (d.generation + 1 == n) w u after d.conn how off is
+      (subst (λ (k : ℕ). EndsIn turns k how u after) same ends)))
+
+  -- the world of the connection no longer serves
+  pub reports_nowhere : (how : How) (n : ℕ) (w : Stage SystemState P) (before : Option (Stage SystemState P))
+      (o : Option Link) (d : Link) → o ≡ Some d → (d.generation == n) ≡ false
+      → ((d.generation + 1 == n) ≡ true → before ≡ None)
+      → ReportsEnd turns o how (record { number = n; current = w; before = before })
+      (record { number = n; current = w; before = before })
+  reports_nowhere how n w before o d has off none =
+      subst
+      (λ (x : Option Link). ReportsEnd turns x how (record { number = n; current = w; before = before })
+      (record { number = n; current = w; before = before })) (sym has)
+      (ends_nowhere (d.generation == n) (d.generation + 1 == n) w before d.conn how off none)
+
+  -- a client that has no connection
+  pub reports_none : (how : How) (s : Serving P) (o : Option Link) → o ≡ None → ReportsEnd turns o how s s
+  reports_none how s o none = subst (λ (x : Option Link). ReportsEnd turns x how s s) (sym none) tt

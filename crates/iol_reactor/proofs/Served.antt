@@ -1,5 +1,5 @@
 -- The history of a client, step by step.
-use Rattle.std.proofs.Common.{◌≡◌, ◌∙◌, ◌<◌, ◌≤◌, ◌-◌, ◌+◌, ◌==◌, ℕ, zero, suc, Bool, true, false, List, [], ◌∷◌, ◌++◌}
+use Rattle.std.proofs.Common.{◌≡◌, ◌∙◌, ◌<◌, ◌≤◌, ◌+◌, ◌==◌, ℕ, zero, suc, Bool, true, false, List, [], ◌∷◌, ◌++◌}
 use Rattle.std.proofs.Common.{length, take, drop, get_or, set, Option, None, Some, Result, Ok, Err, OnOk, OnErr, is_ok}
 use Rattle.std.proofs.Common.{if◌then◌else◌, inl, inr, refl, sym, ap, subst, arith, append_assoc, append-nil}
 use Rattle.std.specs.Prelude.{◌≢◌, ◌⊎◌, IfSome, IsSome, is_some}
@@ -1224,17 +1224,16 @@ module _ {P : Type 0} (turns : TransitionRelation P) (starts : Stage SystemState
         (λ l at more sent v. others l (λ e. other (apart j slot l at e)) (up_to s.number last l (come j l at)) more sent
         v) rest h
 
-    pub all_stay : (q : ℕ) (s after : Serving P) (table next : List (Option Link)) (last : ℕ)
-        (clients : List (Option (Client S))) → q ≡ pool → HaveCome s.number last table
+    pub all_stay : (s after : Serving P) (table next : List (Option Link)) (last : ℕ)
+        (clients : List (Option (Client S))) → HaveCome s.number last table
         → LinksStay turns starts pool s after
         → ((j : ℕ) → link_at next j ≡ link_at table j)
         → AreFollowed turns starts frames pool gives takes s table clients
-        → AreFollowed turns starts frames q gives takes after next clients
-    all_stay q s after table next last clients same come stay rest all =
-        subst (λ k. AreFollowed turns starts frames k gives takes after next clients) (sym same)
-        (λ known j c at. ∥∥₁_map (all known j c at)
+        → AreFollowed turns starts frames pool gives takes after next clients
+    all_stay s after table next last clients come stay rest all =
+        λ known j c at. ∥∥₁_map (all known j c at)
         (λ h. followed_kept s after (link_at table j) (link_at next j) c
-        (λ l is more sent v. stay l more sent false (up_to s.number last l (come j l is)) v) (rest j) h))
+        (λ l is more sent v. stay l more sent false (up_to s.number last l (come j l is)) v) (rest j) h)
 
     -- a client in its place, which has not changed
     pub all_same : (s : Serving P) (table : List (Option Link)) (clients : List (Option (Client S))) (slot : ℕ)
@@ -1246,17 +1245,16 @@ module _ {P : Type 0} (turns : TransitionRelation P) (starts : Stage SystemState
         (sym (set_same clients slot place within is)) all
 
     -- a client and its connection advance; the other clients stay
-    pub all_move : (q : ℕ) (s after : Serving P) (table next : List (Option Link)) (last : ℕ)
-        (clients : List (Option (Client S))) (slot : ℕ) (place : Option (Client S)) (c n : Client S) → q ≡ pool
+    pub all_move : (s after : Serving P) (table next : List (Option Link)) (last : ℕ)
+        (clients : List (Option (Client S))) (slot : ℕ) (place : Option (Client S)) (c n : Client S)
         → AreApart table → HaveCome s.number last table
         → Others s after (link_at table slot) → ((j : ℕ) → j ≢ slot → link_at next j ≡ link_at table j)
         → slot < length clients → place ≡ get_or clients slot place → place ≡ Some c
         → (Followed s (link_at table slot) c → Followed after (link_at next slot) n)
         → AreFollowed turns starts frames pool gives takes s table clients
-        → AreFollowed turns starts frames q gives takes after next (set clients slot (Some n))
-    all_move q s after table next last clients slot place c n same apart come others rest within is here own all =
-        subst (λ k. AreFollowed turns starts frames k gives takes after next (set clients slot (Some n))) (sym same)
-        (λ known j m at. elim (cases_eq j slot) [
+        → AreFollowed turns starts frames pool gives takes after next (set clients slot (Some n))
+    all_move s after table next last clients slot place c n apart come others rest within is here own all =
+        λ known j m at. elim (cases_eq j slot) [
           | inl e ↦ subst (λ k. ∥ IsFollowed turns starts frames pool gives takes after (link_at next k) m ∥₁) (sym e)
               (subst (λ (k : Client S). ∥ IsFollowed turns starts frames pool gives takes after (link_at next slot) k
               ∥₁)
@@ -1265,7 +1263,7 @@ module _ {P : Type 0} (turns : TransitionRelation P) (starts : Stage SystemState
               (∥∥₁_map (all known slot c (at_place clients slot place c within is here)) own))
           | inr other ↦ ∥∥₁_map (all known j m (sym (get_or-set_other clients slot j (Some n) None other) ∙ at))
               (λ h. others_kept s after table next last slot j m apart come others other (rest j other) h)
-        ])
+        ]
 
     -- only a client advances
     pub one_moves : (s : Serving P) (table : List (Option Link)) (clients : List (Option (Client S))) (slot : ℕ)
@@ -1284,17 +1282,16 @@ module _ {P : Type 0} (turns : TransitionRelation P) (starts : Stage SystemState
     ]
 
     -- the client in a place gets a connection
-    pub all_linked : (q : ℕ) (s after : Serving P) (table next : List (Option Link)) (last : ℕ)
-        (clients : List (Option (Client S))) (slot : ℕ) (l : Link) → q ≡ pool → AreApart table
+    pub all_linked : (s after : Serving P) (table next : List (Option Link)) (last : ℕ)
+        (clients : List (Option (Client S))) (slot : ℕ) (l : Link) → AreApart table
         → HaveCome s.number last table
         → Others s after (link_at table slot) → ((j : ℕ) → j ≢ slot → link_at next j ≡ link_at table j)
         → is_some (link_at table slot) ≡ false → link_at next slot ≡ Some l
         → ∥ HasLinkVisited turns starts pool after l [] [] false ∥₁
         → AreFollowed turns starts frames pool gives takes s table clients
-        → AreFollowed turns starts frames q gives takes after next clients
-    all_linked q s after table next last clients slot l same apart come others rest none linked begun all =
-        subst (λ k. AreFollowed turns starts frames k gives takes after next clients) (sym same)
-        (λ known j c at. elim (cases_eq j slot) [
+        → AreFollowed turns starts frames pool gives takes after next clients
+    all_linked s after table next last clients slot l apart come others rest none linked begun all =
+        λ known j c at. elim (cases_eq j slot) [
           | inl e ↦ ∥∥₁_map₂ begun (all known j c at) (λ b h.
               subst (λ (k : Option Link). IsFollowed turns starts frames pool gives takes after k c)
               (sym (ap (λ k. link_at next k) e ∙ linked))
@@ -1302,18 +1299,17 @@ module _ {P : Type 0} (turns : TransitionRelation P) (starts : Stage SystemState
           | inr other ↦
               ∥∥₁_map (all known j c at) (λ h. others_kept s after table next last slot j c apart come others other
               (rest j other) h)
-        ])
+        ]
 
     -- the client in a place is over, and its connection does not matter
-    pub all_hung_up : (q : ℕ) (s after : Serving P) (table next : List (Option Link)) (last : ℕ)
-        (clients : List (Option (Client S))) (slot : ℕ) → q ≡ pool → AreApart table → HaveCome s.number last table
+    pub all_hung_up : (s after : Serving P) (table next : List (Option Link)) (last : ℕ)
+        (clients : List (Option (Client S))) (slot : ℕ) → AreApart table → HaveCome s.number last table
         → Others s after (link_at table slot) → ((j : ℕ) → j ≢ slot → link_at next j ≡ link_at table j)
         → ((c : Client S) → get_or clients slot None ≡ Some c → c.phase ≡ phase.Over)
         → AreFollowed turns starts frames pool gives takes s table clients
-        → AreFollowed turns starts frames q gives takes after next clients
-    all_hung_up q s after table next last clients slot same apart come others rest over all =
-        subst (λ k. AreFollowed turns starts frames k gives takes after next clients) (sym same)
-        (λ known j c at. elim (cases_eq j slot) [
+        → AreFollowed turns starts frames pool gives takes after next clients
+    all_hung_up s after table next last clients slot apart come others rest over all =
+        λ known j c at. elim (cases_eq j slot) [
           | inl e ↦
               ∥∥₁_map (all known j c at)
               (λ h. over_anywhere s after (link_at table j) (link_at next j) c
@@ -1321,19 +1317,18 @@ module _ {P : Type 0} (turns : TransitionRelation P) (starts : Stage SystemState
           | inr other ↦
               ∥∥₁_map (all known j c at) (λ h. others_kept s after table next last slot j c apart come others other
               (rest j other) h)
-        ])
+        ]
 
     -- a new client in a place
-    pub all_admit : (q : ℕ) (s after : Serving P) (table next : List (Option Link)) (last : ℕ)
-        (clients : List (Option (Client S))) (slot : ℕ) (n : Client S) → q ≡ pool → AreApart table
+    pub all_admit : (s after : Serving P) (table next : List (Option Link)) (last : ℕ)
+        (clients : List (Option (Client S))) (slot : ℕ) (n : Client S) → AreApart table
         → HaveCome s.number last table
         → Others s after (link_at table slot) → ((j : ℕ) → j ≢ slot → link_at next j ≡ link_at table j)
         → slot < length clients → (AreKnown gives takes → Followed after (link_at next slot) n)
         → AreFollowed turns starts frames pool gives takes s table clients
-        → AreFollowed turns starts frames q gives takes after next (set clients slot (Some n))
-    all_admit q s after table next last clients slot n same apart come others rest within own all =
-        subst (λ k. AreFollowed turns starts frames k gives takes after next (set clients slot (Some n))) (sym same)
-        (λ known j m at. elim (cases_eq j slot) [
+        → AreFollowed turns starts frames pool gives takes after next (set clients slot (Some n))
+    all_admit s after table next last clients slot n apart come others rest within own all =
+        λ known j m at. elim (cases_eq j slot) [
           | inl e ↦ subst (λ k. ∥ IsFollowed turns starts frames pool gives takes after (link_at next k) m ∥₁) (sym e)
               (subst (λ (k : Client S). ∥ IsFollowed turns starts frames pool gives takes after (link_at next slot) k
               ∥₁)
@@ -1342,7 +1337,7 @@ module _ {P : Type 0} (turns : TransitionRelation P) (starts : Stage SystemState
               ∣ own known ∣₁)
           | inr other ↦ ∥∥₁_map (all known j m (sym (get_or-set_other clients slot j (Some n) None other) ∙ at))
               (λ h. others_kept s after table next last slot j m apart come others other (rest j other) h)
-        ])
+        ]
 
     -- no client in a place any more
     pub all_remove : (s : Serving P) (table : List (Option Link)) (clients : List (Option (Client S))) (slot : ℕ)
@@ -1380,23 +1375,23 @@ module _ {P : Type 0} (turns : TransitionRelation P) (starts : Stage SystemState
         all
 
     -- a client gets a connection, or none
-    pub all_connected : (r : Bool) (q : ℕ) (s after : Serving P) (table next : List (Option Link)) (last : ℕ)
-        (clients : List (Option (Client S))) (slot n : ℕ) → q ≡ pool → AreApart table → HaveCome s.number last table
+    pub all_connected : (r : Bool) (s after : Serving P) (table next : List (Option Link)) (last : ℕ)
+        (clients : List (Option (Client S))) (slot n : ℕ) → AreApart table → HaveCome s.number last table
         → LinksStay turns starts pool s after → is_some (link_at table slot) ≡ false → n ≡ after.number
         → (r ≡ true → (c : ℕ) × (link_at next slot ≡ Some (record { conn = c; generation = n }))
         × ∥ HasVisited turns starts pool c [] [] false after.current ∥₁)
         → (r ≡ true → (c : ℕ) × (next ≡ set table slot (Some (record { conn = c; generation = n }))))
         → (r ≡ false → next ≡ table)
         → AreFollowed turns starts frames pool gives takes s table clients
-        → AreFollowed turns starts frames q gives takes after next clients
-    all_connected false q s after table next last clients slot n same apart come stay none number begun given refused
+        → AreFollowed turns starts frames pool gives takes after next clients
+    all_connected false s after table next last clients slot n apart come stay none number begun given refused
         all =
-        all_stay q s after table next last clients same come stay (λ j. table_rest next table (refused refl) j) all
-    all_connected true q s after table next last clients slot n same apart come stay none number begun given refused
+        all_stay s after table next last clients come stay (λ j. table_rest next table (refused refl) j) all
+    all_connected true s after table next last clients slot n apart come stay none number begun given refused
         all =
         let b = begun refl in
         let l : Link = record { conn = b.0; generation = n } in
-        all_linked q s after table next last clients slot l same apart come
+        all_linked s after table next last clients slot l apart come
         (others_stay s after (link_at table slot) stay)
         (λ j other. set_rest table next slot (Some (record { conn = (given refl).0; generation = n })) (given refl).1 j
         other) none b.1
@@ -1412,21 +1407,20 @@ module _ {P : Type 0} (turns : TransitionRelation P) (starts : Stage SystemState
         (sym none) (all_remove s table clients slot within all)
 
     -- no client is in a place past the end
-    pub all_past : (q : ℕ) (s after : Serving P) (table next : List (Option Link)) (last : ℕ)
-        (clients : List (Option (Client S))) (slot : ℕ) → q ≡ pool → AreApart table → HaveCome s.number last table
+    pub all_past : (s after : Serving P) (table next : List (Option Link)) (last : ℕ)
+        (clients : List (Option (Client S))) (slot : ℕ) → AreApart table → HaveCome s.number last table
         → Others s after (link_at table slot) → ((j : ℕ) → j ≢ slot → link_at next j ≡ link_at table j)
         → length clients ≤ slot
         → AreFollowed turns starts frames pool gives takes s table clients
-        → AreFollowed turns starts frames q gives takes after next clients
-    all_past q s after table next last clients slot same apart come others rest past all =
-        subst (λ k. AreFollowed turns starts frames k gives takes after next clients) (sym same)
-        (λ known j c at. elim (cases_eq j slot) [
+        → AreFollowed turns starts frames pool gives takes after next clients
+    all_past s after table next last clients slot apart come others rest past all =
+        λ known j c at. elim (cases_eq j slot) [
           | inl e ↦ absurd (let none : get_or clients j None ≡ None = ap (λ k. get_or clients k None) e
               ∙ none_past clients slot past in cc (none, at))
           | inr other ↦
               ∥∥₁_map (all known j c at) (λ h. others_kept s after table next last slot j c apart come others other
               (rest j other) h)
-        ])
+        ]
 
     -- the client that was at a place
     pub known_taken : (s : Serving P) (table : List (Option Link)) (clients : List (Option (Client S))) (slot : ℕ)

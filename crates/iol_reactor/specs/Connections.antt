@@ -1,6 +1,6 @@
 -- The connections of clients.
 use Rattle.std.specs.Prelude.{◌≡◌, ◌==◌, ◌||◌, ◌&&◌, ℕ, Bool, nat_lt, nat_le, List, Option, None, Some, get_or}
-use Rattle.std.specs.Prelude.{IsTrue}
+use Rattle.std.specs.Prelude.{IsTrue, false, not}
 use Rattle.iol_reactor.specs.declared.links.Link.{Link}
 
 -- the connection of the client at an index
@@ -18,3 +18,13 @@ has_come generation last l = nat_lt l.generation generation || ((l.generation ==
 -- The same for all connections of clients.
 abbrev pub HaveCome : (generation last : ℕ) → List (Option Link) → Type 0
 HaveCome generation last table = (i : ℕ) (l : Link) → link_at table i ≡ Some l → IsTrue (has_come generation last l)
+
+-- a client has a connection of the current world
+abbrev pub is_current : (generation : ℕ) → Option Link → Bool
+is_current generation None = false
+is_current generation (Some l) = l.generation == generation
+
+-- a client has a connection of an earlier world
+abbrev pub is_earlier : (generation : ℕ) → Option Link → Bool
+is_earlier generation None = false
+is_earlier generation (Some l) = not (l.generation == generation)

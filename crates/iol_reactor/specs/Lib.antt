@@ -5,4 +5,6 @@ pub mod Serving
 pub mod Visits
 pub mod Clients
 pub mod LinkVisits
+pub mod LinkSteps
 pub mod Served
+pub mod Deadlines

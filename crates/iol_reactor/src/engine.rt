@@ -1,5 +1,5 @@
 //! The clients and the worlds that serve them, for all kinds of sockets.
-ghost use Rattle.std.specs.Prelude.{◌≡◌, ◌≤◌, [], get_or, None, Some, IfNone, IfSome};
+ghost use Rattle.std.specs.Prelude.{◌≡◌, ◌<◌, ◌-◌, [], get_or, length, max, nat_lt, None, Some, IfNone, IfOk, IfSome};
 ghost use Rattle.iol_reactor.specs.Served.{HasKnownHistory, IsEmpty};
 
 use crate::client::Client;
@@ -13,7 +13,6 @@ use crate::socket::Socket;
 use crate::timers::{Key, Timers};
 use crate::worlds::Worlds;
 use iol_back::backing::Backing;
-use iol_core::numbers::PoolId;
 use iol_proc::process::Process;
 use iol_proc::world::World;
 use std::alloc::{AllocError, Global};
@@ -63,17 +62,19 @@ pub struct Engine<S: Socket, B: Backing, P: Process, V: Service<B, P>> {
 }
 
 impl<S: Socket + Drop, B: Backing + Drop, P: Process, V: Service<B, P>> Engine<S, B, P, V> {
-    /// No client yet. The bytes that arrive are placed in the pool.
+    /// No client yet.
     pub fn new(
         alloc: Global,
-        pool: PoolId,
         world: World<B, P>,
         limits: Limits,
     ) -> Result<Engine<S, B, P, V>, AllocError>
         requires { V.starts world }
+        ensures world { IfOk result (λ engine. engine.places.worlds.current.world ≡ world) }
+        ensures empty { IfOk result (λ engine. engine.places.clients.items ≡ []) }
+        ensures limits { IfOk result (λ engine. engine.limits ≡ limits) }
     {
         match Room::new(alloc, &limits) {
-            Ok(room) => Ok(Engine::within(alloc, room, world, pool, limits)),
+            Ok(room) => Ok(Engine::within(alloc, room, world, limits)),
             Err(error) => {
                 drop(world);
                 Err(error)
@@ -86,16 +87,18 @@ impl<S: Socket + Drop, B: Backing + Drop, P: Process, V: Service<B, P>> Engine<S
         alloc: Global,
         room: Room<S>,
         world: World<B, P>,
-        pool: PoolId,
         limits: Limits,
     ) -> Engine<S, B, P, V>
         requires starts { V.starts world }
         requires empty { room.clients.items ≡ [] }
+        ensures world { result.places.worlds.current.world ≡ world }
+        ensures empty { result.places.clients.items ≡ [] }
+        ensures limits { result.limits ≡ limits }
     {
         Engine {
             alloc,
             limits,
-            places: Places::new(room.clients, Worlds::new(world, pool, room.links)),
+            places: Places::new(room.clients, Worlds::new(world, room.links)),
             marks: room.marks,
             free: room.free,
             serial: 0,
@@ -116,25 +119,31 @@ impl<S: Socket + Drop, B: Backing + Drop, P: Process, V: Service<B, P>> Engine<S
     }
 
     /// The number of clients.
-    pub fn count(&self) -> usize {
+    pub fn count(&self) -> usize
+        ensures { result ≡ length self.entry.now.places.clients.items
+            - length self.entry.now.free.items }
+    {
         self.places.len().saturating_sub(self.free.len())
     }
 
     /// The time, in milliseconds since the service began.
-    pub fn now(&self) -> u64 {
+    pub fn now(&self) -> u64
+        ensures { result ≡ self.entry.now.now }
+    {
         self.now
     }
 
     /// Sets the time; it never goes back.
     pub fn set_now(&mut self, now: u64)
-        ensures never_back { self.old.now ≤ self.new.now }
-        ensures reaches { now ≤ self.new.now }
+        ensures { self.new.now ≡ max now self.old.now }
     {
         self.now = now.max(self.now);
     }
 
     /// The worlds.
-    pub fn worlds(&self) -> &Worlds<B, P, V> {
+    pub fn worlds(&self) -> &Worlds<B, P, V>
+        ensures { result.now ≡ self.entry.now.places.worlds }
+    {
         self.places.worlds()
     }
 
@@ -142,6 +151,9 @@ impl<S: Socket + Drop, B: Backing + Drop, P: Process, V: Service<B, P>> Engine<S
     /// No world is retiring.
     pub fn renew(&mut self, world: World<B, P>)
         requires { V.starts world }
+        ensures clients { self.new.places.clients ≡ self.old.places.clients }
+        ensures takes { self.old.places.worlds.links.generation < 18446744073709551615 →
+            self.new.places.worlds.current.world ≡ world }
     {
         self.places.renew(world);
         self.is_moved = true;
@@ -154,7 +166,7 @@ impl<S: Socket + Drop, B: Backing + Drop, P: Process, V: Service<B, P>> Engine<S
         ensures none { IfNone result
             (get_or self.entry.now.places.clients.items slot None ≡ None) }
         ensures history { IfSome result (λ c. HasKnownHistory P.turns V.starts V.frames
-            self.entry.now.places.worlds.pool S.supplied S.accepted c.now) }
+            V.POOL S.supplied S.accepted c.now) }
     {
         self.places.get(slot)
     }
@@ -168,7 +180,11 @@ impl<S: Socket + Drop, B: Backing + Drop, P: Process, V: Service<B, P>> Engine<S
     }
 
     /// Whether there is a place for one more client.
-    pub fn has_place(&self) -> bool {
+    pub fn has_place(&self) -> bool
+        ensures { result ≡ nat_lt
+            (length self.entry.now.places.clients.items - length self.entry.now.free.items)
+            self.entry.now.limits.max_clients }
+    {
         self.count() < self.limits.max_clients
     }
 
@@ -185,7 +201,9 @@ impl<S: Socket + Drop, B: Backing + Drop, P: Process, V: Service<B, P>> Engine<S
     }
 
     // Adds a place, if one more is allowed, and returns it.
-    fn add_place(&mut self) -> Option<usize> {
+    fn add_place(&mut self) -> Option<usize>
+        ensures { IfSome result (λ slot. slot < self.old.limits.max_clients) }
+    {
         let slot = self.places.len();
         if slot >= self.limits.max_clients
             || self.places.add_place().is_err()

@@ -23,25 +23,22 @@ use iol_sock::{Drained, Gather};
 use std::io::Write;
 use std::marker::PhantomData;
 
-/// A world of a service, and the pool for its input. Since it began, its only events were turns of
-/// its processes and events of connections.
+/// A world of a service. Since it began, its only events were turns of its processes and events of
+/// connections.
 #[derive(Drop)]
 pub struct Host<B: Backing, P: Process, V: Service<B, P>> {
-    pool: PoolId,
     world: World<B, P>,
     service: PhantomData<V>,
-    ghost served: { ∥ HasServed P.turns V.starts pool world ∥₁ },
+    ghost served: { ∥ HasServed P.turns V.starts V.POOL world ∥₁ },
 }
 
 impl<B: Backing + Drop, P: Process, V: Service<B, P>> Host<B, P, V> {
     /// A world that has served no client yet.
-    pub fn new(world: World<B, P>, pool: PoolId) -> Host<B, P, V>
+    pub fn new(world: World<B, P>) -> Host<B, P, V>
         requires { V.starts world }
-        ensures pool { result.pool ≡ pool }
-        ensures world { result.world ≡ world }
+        ensures { result.world ≡ world }
     {
         Host {
-            pool,
             world,
             service: PhantomData,
         }
@@ -49,20 +46,19 @@ impl<B: Backing + Drop, P: Process, V: Service<B, P>> Host<B, P, V> {
 
     /// The world.
     pub fn world(&self) -> &World<B, P>
-        ensures served { ∥ HasServed P.turns V.starts self.now.pool result.now ∥₁ }
+        ensures served { ∥ HasServed P.turns V.starts V.POOL result.now ∥₁ }
     {
         &self.world
     }
 
     /// Creates a connection, if there is room for it.
     pub fn connect(&mut self) -> Option<ConnId>
-        ensures made { ConnectsIn P.turns self.old.pool result self.old.world self.new.world }
+        ensures made { ConnectsIn P.turns V.POOL result self.old.world self.new.world }
         ensures begun { IfSome result
-            (λ c. ∥ HasVisited P.turns V.starts self.old.pool c [] [] false self.new.world ∥₁) }
-        ensures visits { VisitsStay P.turns V.starts self.old.pool self.old.world self.new.world }
-        ensures pool { self.new.pool ≡ self.old.pool }
+            (λ c. ∥ HasVisited P.turns V.starts V.POOL c [] [] false self.new.world ∥₁) }
+        ensures visits { VisitsStay P.turns V.starts V.POOL self.old.world self.new.world }
     {
-        let pool = self.pool;
+        let pool = PoolId::new(V::POOL);
         let reply = self.world.step_outside(Event::ConnNew { pool });
         match &reply {
             Reply::Conn(conn) => Some(*conn),
@@ -84,8 +80,7 @@ impl<B: Backing + Drop, P: Process, V: Service<B, P>> Host<B, P, V> {
         ensures run { IfHonest self.old.world.machine.disk
             (CopiedTurnAt P.turns self.old.world place result self.new.world) }
         ensures alone { (c : ℕ) → ProceedsIn P.turns c [] [] false self.old.world self.new.world }
-        ensures visits { VisitsStay P.turns V.starts self.old.pool self.old.world self.new.world }
-        ensures pool { self.new.pool ≡ self.old.pool }
+        ensures visits { VisitsStay P.turns V.starts V.POOL self.old.world self.new.world }
     {
         self.world.turn_at(place)
     }
@@ -94,10 +89,9 @@ impl<B: Backing + Drop, P: Process, V: Service<B, P>> Host<B, P, V> {
     pub fn close(&mut self, conn: ConnId)
         ensures reported { EndsIn P.turns conn How.Done self.old.world self.new.world }
         ensures alone { ProceedsIn P.turns conn [] [] false self.old.world self.new.world }
-        ensures visits { VisitsAdvance P.turns V.starts self.old.pool conn [] [] false
+        ensures visits { VisitsAdvance P.turns V.starts V.POOL conn [] [] false
             self.old.world
             self.new.world }
-        ensures pool { self.new.pool ≡ self.old.pool }
     {
         steps::close(&mut self.world, conn);
     }
@@ -106,9 +100,8 @@ impl<B: Backing + Drop, P: Process, V: Service<B, P>> Host<B, P, V> {
     pub fn hang_up(&mut self, conn: ConnId)
         ensures reported { EndsIn P.turns conn How.Gone self.old.world self.new.world }
         ensures alone { ProceedsIn P.turns conn [] [] true self.old.world self.new.world }
-        ensures visits { VisitsAdvance P.turns V.starts self.old.pool conn [] [] true self.old.world
+        ensures visits { VisitsAdvance P.turns V.starts V.POOL conn [] [] true self.old.world
             self.new.world }
-        ensures pool { self.new.pool ≡ self.old.pool }
     {
         steps::hang_up(&mut self.world, conn);
     }
@@ -117,8 +110,7 @@ impl<B: Backing + Drop, P: Process, V: Service<B, P>> Host<B, P, V> {
     pub fn is_over(&mut self, conn: ConnId) -> bool
         ensures over { result ≡ lacks_conn (copied self.old.world).machine conn }
         ensures same { copied self.new.world ≡ copied self.old.world }
-        ensures visits { VisitsStay P.turns V.starts self.old.pool self.old.world self.new.world }
-        ensures pool { self.new.pool ≡ self.old.pool }
+        ensures visits { VisitsStay P.turns V.starts V.POOL self.old.world self.new.world }
     {
         steps::is_over(&mut self.world, conn)
     }
@@ -126,9 +118,8 @@ impl<B: Backing + Drop, P: Process, V: Service<B, P>> Host<B, P, V> {
     /// Bytes arrive on a connection, as many as fit. Returns the rest.
     pub fn hand_in<'a>(&mut self, conn: ConnId, bytes: &'a [u8]) -> &'a [u8]
         ensures alone { ArrivesIn P.turns conn bytes.now result.now self.old.world self.new.world }
-        ensures visits { VisitsArrive P.turns V.starts self.old.pool conn bytes.now result.now
+        ensures visits { VisitsArrive P.turns V.starts V.POOL conn bytes.now result.now
             self.old.world self.new.world }
-        ensures pool { self.new.pool ≡ self.old.pool }
     {
         steps::hand_in(&mut self.world, conn, bytes)
     }
@@ -139,9 +130,8 @@ impl<B: Backing + Drop, P: Process, V: Service<B, P>> Host<B, P, V> {
         ensures over { IsNone result → lacks_conn (copied self.new.world).machine conn ≡ true }
         ensures alone { SendsIn P.turns conn W.contents writer.old writer.new self.old.world
             self.new.world }
-        ensures visits { VisitsSend P.turns V.starts self.old.pool conn (W.contents writer.old)
+        ensures visits { VisitsSend P.turns V.starts V.POOL conn (W.contents writer.old)
             (W.contents writer.new) self.old.world self.new.world }
-        ensures pool { self.new.pool ≡ self.old.pool }
     {
         steps::collect(&mut self.world, conn, writer, most)
     }
@@ -152,10 +142,9 @@ impl<B: Backing + Drop, P: Process, V: Service<B, P>> Host<B, P, V> {
         ensures over { IsNone result → lacks_conn (copied self.new.world).machine conn ≡ true }
         ensures alone { SendsIn P.turns conn G.contents taker.old taker.new self.old.world
             self.new.world }
-        ensures visits { VisitsSend P.turns V.starts self.old.pool conn (G.contents taker.old)
+        ensures visits { VisitsSend P.turns V.starts V.POOL conn (G.contents taker.old)
             (G.contents taker.new) self.old.world self.new.world }
         ensures calls { IsCalled G.gathers taker.old taker.new }
-        ensures pool { self.new.pool ≡ self.old.pool }
     {
         steps::offer(&mut self.world, conn, taker, most)
     }

@@ -11,7 +11,7 @@
 //! rest waits with the client.
 //!
 //! ```text
-//! let mut reactor = Reactor::new(&rt, alloc, address, pool, world, Limits::DEFAULT)?;
+//! let mut reactor = Reactor::new(&rt, alloc, address, world, Limits::DEFAULT)?;
 //! reactor.serve(&rt, &mut service)?;
 //! ```
 #![tactic(auto)]

@@ -1,7 +1,9 @@
 //! The clients in their places, and the worlds that serve them.
 ghost use Rattle.std.specs.Prelude.{◌≡◌, ◌≢◌, ◌<◌, [], length, get_or, None, Some, true, false, IfNone};
-ghost use Rattle.std.specs.Prelude.{IfOk, IfSome, ℕ, ◌≤◌, ◌++◌, ◌∷◌, OnOk, OnErr};
+ghost use Rattle.std.specs.Prelude.{IfOk, IfSome, ℕ, ◌≤◌, ◌++◌, ◌∷◌, ◌==◌, OnOk, OnErr, is_some};
+ghost use Rattle.std.specs.Prelude.{count_by, if◌then◌else◌};
 ghost use Rattle.iol_reactor.specs.Connections.{link_at};
+ghost use Rattle.iol_reactor.specs.LinkSteps.{WorldsTurnAt};
 ghost use Rattle.iol_reactor.specs.LinkVisits.{IsOver, serving};
 ghost use Rattle.iol_reactor.specs.Served.{AreFollowed, HasKnownHistory, HasSocketAt, IsEmpty};
 ghost use Rattle.iol_reactor.specs.Served.{IsFrameAt, IsPhaseAt, is_ending, is_free};
@@ -23,7 +25,7 @@ use std::net::SocketAddr;
 pub struct Places<S: Socket, B: Backing, P: Process, V: Service<B, P>> {
     pub(crate) clients: Vec<Option<Client<S>>>,
     pub(crate) worlds: Worlds<B, P, V>,
-    ghost followed: { AreFollowed P.turns V.starts V.frames worlds.pool S.supplied S.accepted
+    ghost followed: { AreFollowed P.turns V.starts V.frames V.POOL S.supplied S.accepted
         (serving worlds.links.generation worlds.current.world (λ h. h.world) worlds.retiring)
         worlds.links.table.items clients.items },
 }
@@ -32,6 +34,8 @@ impl<S: Socket + Drop, B: Backing + Drop, P: Process, V: Service<B, P>> Places<S
     /// No client is in these places yet.
     pub fn new(clients: Vec<Option<Client<S>>>, worlds: Worlds<B, P, V>) -> Places<S, B, P, V>
         requires { clients.items ≡ [] }
+        ensures clients { result.clients ≡ clients }
+        ensures worlds { result.worlds ≡ worlds }
     {
         Places { clients, worlds }
     }
@@ -44,7 +48,9 @@ impl<S: Socket + Drop, B: Backing + Drop, P: Process, V: Service<B, P>> Places<S
     }
 
     /// The worlds.
-    pub fn worlds(&self) -> &Worlds<B, P, V> {
+    pub fn worlds(&self) -> &Worlds<B, P, V>
+        ensures { result.now ≡ self.now.worlds }
+    {
         &self.worlds
     }
 
@@ -53,7 +59,7 @@ impl<S: Socket + Drop, B: Backing + Drop, P: Process, V: Service<B, P>> Places<S
         ensures place { IfSome result (λ c. get_or self.now.clients.items slot None ≡ Some c.now) }
         ensures none { IfNone result (get_or self.now.clients.items slot None ≡ None) }
         ensures history { IfSome result (λ c. HasKnownHistory P.turns V.starts V.frames
-            self.now.worlds.pool S.supplied S.accepted c.now) }
+            V.POOL S.supplied S.accepted c.now) }
     {
         self.client_at(slot)
     }
@@ -100,6 +106,7 @@ impl<S: Socket + Drop, B: Backing + Drop, P: Process, V: Service<B, P>> Places<S
             → get_or self.new.clients.items j None ≡ get_or self.old.clients.items j None }
         ensures past { length self.old.clients.items ≤ slot →
             self.new.clients.items ≡ self.old.clients.items }
+        ensures places { length self.new.clients.items ≡ length self.old.clients.items }
     {
         self.worlds.release(slot);
         if slot < self.clients.len() {
@@ -114,9 +121,10 @@ impl<S: Socket + Drop, B: Backing + Drop, P: Process, V: Service<B, P>> Places<S
         ensures removed { get_or self.new.clients.items slot None ≡ None }
         ensures others { (j : ℕ) → j ≢ slot
             → get_or self.new.clients.items j None ≡ get_or self.old.clients.items j None }
+        ensures places { length self.new.clients.items ≡ length self.old.clients.items }
         ensures worlds { self.new.worlds ≡ self.old.worlds }
         ensures history { IfSome result (λ c. HasKnownHistory P.turns V.starts V.frames
-            self.old.worlds.pool S.supplied S.accepted c) }
+            V.POOL S.supplied S.accepted c) }
     {
         if slot >= self.clients.len() {
             return None;
@@ -128,6 +136,13 @@ impl<S: Socket + Drop, B: Backing + Drop, P: Process, V: Service<B, P>> Places<S
     /// No world is retiring.
     pub fn renew(&mut self, world: World<B, P>)
         requires { V.starts world }
+        ensures clients { self.new.clients ≡ self.old.clients }
+        ensures takes { self.old.worlds.links.generation < 18446744073709551615 →
+            self.new.worlds.current.world ≡ world }
+        ensures retires { self.old.worlds.links.generation < 18446744073709551615 →
+            self.new.worlds.retiring ≡ (if count_by is_some self.old.worlds.links.table.items == 0
+            then None
+            else Some self.old.worlds.current) }
     {
         self.worlds.renew(world);
     }
@@ -135,16 +150,25 @@ impl<S: Socket + Drop, B: Backing + Drop, P: Process, V: Service<B, P>> Places<S
     /// Gives a turn to the process at an index, and returns its activity, as with
     /// [`Worlds::turn_at`].
     pub fn turn_at(&mut self, place: usize) -> Option<Activity>
-        ensures { self.new.clients ≡ self.old.clients }
+        ensures turn { WorldsTurnAt P.turns place result
+            (serving self.old.worlds.links.generation self.old.worlds.current.world
+            (λ h. h.world) self.old.worlds.retiring)
+            (serving self.new.worlds.links.generation self.new.worlds.current.world
+            (λ h. h.world) self.new.worlds.retiring) }
+        ensures clients { self.new.clients ≡ self.old.clients }
     {
         self.worlds.turn_at(place)
     }
 
     /// Whether the client in this place has a connection that the processes have closed.
     pub fn is_over(&mut self, slot: usize) -> bool
-        ensures { result ≡ true → IsOver (link_at self.new.worlds.links.table.items slot)
+        ensures over { result ≡ true → IsOver (link_at self.new.worlds.links.table.items slot)
             (serving self.new.worlds.links.generation self.new.worlds.current.world
             (λ h. h.world) self.new.worlds.retiring) }
+        ensures open { result ≡ false → IsOver (link_at self.new.worlds.links.table.items slot)
+            (serving self.new.worlds.links.generation self.new.worlds.current.world
+            (λ h. h.world) self.new.worlds.retiring) → ⊥ }
+        ensures clients { self.new.clients ≡ self.old.clients }
     {
         self.worlds.is_over(slot)
     }
@@ -225,7 +249,9 @@ impl<S: Socket + Drop, B: Backing + Drop, P: Process, V: Service<B, P>> Places<S
 
     /// The client in this place gets a connection, if it has none and there is room for it.
     pub fn connect(&mut self, slot: usize) -> bool
-        ensures { self.new.clients ≡ self.old.clients }
+        ensures clients { self.new.clients ≡ self.old.clients }
+        ensures connected { result ≡ true →
+            is_some (link_at self.new.worlds.links.table.items slot) ≡ true }
     {
         if self.worlds.has_link(slot) {
             return false;

@@ -1,5 +1,5 @@
 //! The loop: it polls the sockets, accepts clients, and lets the engine work.
-ghost use Rattle.std.specs.Prelude.{◌≡◌, IfOk, OnOk, Some, true};
+ghost use Rattle.std.specs.Prelude.{◌≡◌, ◌≤◌, IfOk, Ok, OnOk, Some, length, true};
 ghost use Rattle.iol_reactor.specs.Accepting.{StaysWithin};
 
 use crate::accept::{Acceptor, Listener};
@@ -8,7 +8,6 @@ use crate::limits::{EVENTS, Limits, MAX_TURNS, RENEW_MILLIS};
 use crate::service::Service;
 use crate::turns::Stopwatch;
 use iol_back::backing::Backing;
-use iol_core::numbers::PoolId;
 use iol_proc::process::Process;
 use iol_proc::world::World;
 use mio::event::Event;
@@ -37,27 +36,23 @@ pub struct Reactor<L, B: Backing, P: Process, V: Service<B, P>> {
 }
 
 impl<B: Backing + Drop, P: Process, V: Service<B, P>> Reactor<TcpListener, B, P, V> {
-    /// Listens on an address. The bytes that clients send are placed in the pool.
+    /// Listens on an address.
     pub fn new(
         net: &impl Net,
         alloc: Global,
         address: SocketAddr,
-        pool: PoolId,
         world: World<B, P>,
         limits: Limits,
     ) -> io::Result<Reactor<TcpListener, B, P, V>>
         requires { V.starts world }
         ensures left { IfOk result (λ reactor. reactor.acceptor.left ≡ limits.stop_after) }
+        ensures world { IfOk result (λ reactor. reactor.engine.places.worlds.current.world ≡ world) }
+        ensures limits { IfOk result (λ reactor. reactor.engine.limits ≡ limits) }
     {
         match listen(net, address) {
             Ok((listener, poll)) => {
                 let acceptor = Acceptor::new(listener, limits.stop_after);
-                Reactor::over(
-                    alloc,
-                    poll,
-                    acceptor,
-                    Engine::new(alloc, pool, world, limits),
-                )
+                Reactor::over(alloc, poll, acceptor, Engine::new(alloc, world, limits))
             }
             Err(error) => {
                 drop(world);
@@ -73,7 +68,8 @@ impl<B: Backing + Drop, P: Process, V: Service<B, P>> Reactor<TcpListener, B, P,
         acceptor: Acceptor<TcpListener>,
         engine: Result<Engine<TcpStream, B, P, V>, AllocError>,
     ) -> io::Result<Reactor<TcpListener, B, P, V>>
-        ensures { IfOk result (λ reactor. reactor.acceptor ≡ acceptor) }
+        ensures acceptor { IfOk result (λ reactor. reactor.acceptor ≡ acceptor) }
+        ensures engine { IfOk result (λ reactor. Ok reactor.engine ≡ engine) }
     {
         match engine {
             Ok(engine) => Ok(Reactor {
@@ -106,6 +102,8 @@ where
         ensures accepts { StaysWithin (L.given self.old.acceptor.listener) self.old.acceptor.left
             (L.given self.new.acceptor.listener) self.new.acceptor.left }
         ensures done { OnOk result (self.new.acceptor.left ≡ Some 0) }
+        ensures gone { OnOk result (length self.new.engine.places.clients.items
+            ≤ length self.new.engine.free.items) }
     {
         let start = Instant::now(clock)?;
         let mut events = Events::with_capacity(self.alloc, EVENTS)?;
@@ -150,7 +148,9 @@ where
 
     // Whether all clients that may be accepted have come and gone.
     fn is_done(&self) -> bool
-        ensures { result ≡ true → self.now.acceptor.left ≡ Some 0 }
+        ensures left { result ≡ true → self.now.acceptor.left ≡ Some 0 }
+        ensures gone { result ≡ true → length self.now.engine.places.clients.items
+            ≤ length self.now.engine.free.items }
     {
         self.acceptor.is_exhausted() && self.engine.count() == 0
     }

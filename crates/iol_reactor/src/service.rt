@@ -65,6 +65,11 @@ pub struct Exchange<'a> {
 
 /// A protocol and its records, over the processes of worlds.
 pub trait Service<B: Backing, P: Process> {
+    /// The number of the pool in which the bytes that arrive on connections are placed.
+    const POOL: u32;
+
+    ghost POOL: { ℕ };
+
     /// The worlds that it may begin with.
     ghost starts: { Stage SystemState P → Type 0 } = { λ world. Unit {0} };
 

@@ -1,4 +1,6 @@
 //! The queues of deadlines, one for each limit.
+ghost use Rattle.std.specs.Prelude.{◌≡◌, ◌/◌, IfOk, max};
+
 use crate::deadlines::Deadlines;
 use crate::limits::Limits;
 use std::alloc::{AllocError, Global};
@@ -24,13 +26,23 @@ pub struct Timers {
 const LOOKS: u64 = 8;
 
 // The time between two checks of a limit.
-fn look_of(millis: u64) -> u64 {
+fn look_of(millis: u64) -> u64
+    ensures { result ≡ max (millis / LOOKS) 1 }
+{
     (millis / LOOKS).max(1)
 }
 
 impl Timers {
     /// No deadline yet, and memory for one of each kind for all clients.
-    pub fn new(alloc: Global, limits: &Limits) -> Result<Timers, AllocError> {
+    pub fn new(alloc: Global, limits: &Limits) -> Result<Timers, AllocError>
+        ensures silences { IfOk result
+            (λ timers. timers.silences.delay ≡ max (limits.now.idle_millis / LOOKS) 1) }
+        ensures heads { IfOk result
+            (λ timers. timers.heads.delay ≡ max (limits.now.head_millis / LOOKS) 1) }
+        ensures rates { IfOk result (λ timers. timers.rates.delay ≡ limits.now.rate_millis) }
+        ensures drains { IfOk result (λ timers. timers.drains.delay ≡ limits.now.drain_millis) }
+        ensures parks { IfOk result (λ timers. timers.parks.delay ≡ limits.now.park_millis) }
+    {
         let most = limits.max_clients;
         Ok(Timers {
             silences: Deadlines::new(alloc, look_of(limits.idle_millis), most)?,

@@ -1,4 +1,7 @@
 //! The order of process turns, and the end of a run of turns.
+ghost use Rattle.std.specs.Prelude.{◌≡◌, ◌≤◌, ◌<◌, ◌+◌, None, IfSome, max, nat_le};
+ghost use Rattle.std.proofs.Props.{props};
+
 use crate::limits::{RUN_MICROS, SLICE_MICROS, UNTIMED_TURNS};
 use iol_proc::activity::Activity;
 
@@ -43,11 +46,17 @@ pub struct Order {
     began: u64,
 
     is_over: bool,
+    ghost within: { place < max count 1 },
+    ghost resumed: { IfSome resumes (λ next. next < count) } by { Prim.hlevel props },
 }
 
 impl Order {
     /// A run of this number of processes, whose rounds continue with the process at this index.
-    pub fn new(count: usize, next: usize) -> Order {
+    pub fn new(count: usize, next: usize) -> Order
+        ensures count { result.count ≡ count }
+        ensures place { result.place ≡ 0 }
+        ensures quiet { result.quiet ≡ 0 }
+    {
         Order {
             count,
             place: 0,
@@ -66,17 +75,23 @@ impl Order {
     }
 
     /// The process that has the next turn.
-    pub fn place(&self) -> usize {
+    pub fn place(&self) -> usize
+        ensures { result ≡ self.entry.now.place }
+    {
         self.place
     }
 
     /// The process with which the rounds continue.
-    pub fn next(&self) -> usize {
+    pub fn next(&self) -> usize
+        ensures { result < max self.entry.now.count 1 }
+    {
         self.resumes.unwrap_or(self.place)
     }
 
     /// Whether all processes are idle: each was quiet in a round in which none acted.
-    pub fn is_idle(&self) -> bool {
+    pub fn is_idle(&self) -> bool
+        ensures { result ≡ nat_le self.entry.now.count self.entry.now.quiet }
+    {
         self.count <= self.quiet
     }
 
@@ -87,7 +102,13 @@ impl Order {
     }
 
     /// The process had its turn.
-    pub fn note<W: Stopwatch>(&mut self, activity: Activity, watch: &mut W) {
+    pub fn note<W: Stopwatch>(&mut self, activity: Activity, watch: &mut W)
+        ensures count { self.new.count ≡ self.old.count }
+        ensures acts { activity ≡ Activity.Acts → self.new.quiet ≡ 0 }
+        ensures quiet { self.new.quiet ≤ self.old.quiet + 1 }
+        ensures again { activity ≡ Activity.Yields → self.old.yields ≡ 0 → (self.new.quiet ≡ self.old.quiet)
+            × (self.new.place ≡ self.old.place) }
+    {
         match activity {
             Activity::Waits => {}
             Activity::Yields => {
@@ -108,7 +129,10 @@ impl Order {
     }
 
     // The process is quiet, so its time slice is over.
-    fn be_quiet(&mut self) {
+    fn be_quiet(&mut self)
+        ensures count { self.new.count ≡ self.old.count }
+        ensures quiet { self.new.quiet ≤ self.old.quiet + 1 }
+    {
         if self.resumes.is_none() {
             self.quiet = self.quiet.saturating_add(1);
         }
@@ -116,7 +140,10 @@ impl Order {
     }
 
     // Reads the clock. The time slice may be over.
-    fn read<W: Stopwatch>(&mut self, watch: &mut W) {
+    fn read<W: Stopwatch>(&mut self, watch: &mut W)
+        ensures count { self.new.count ≡ self.old.count }
+        ensures quiet { self.new.quiet ≡ self.old.quiet }
+    {
         self.untimed = 0;
         self.now = watch.micros();
         if SLICE_MICROS <= self.now.saturating_sub(self.began) {
@@ -125,7 +152,16 @@ impl Order {
     }
 
     // The next process has its time slice.
-    fn end_slice(&mut self) {
+    fn end_slice(&mut self)
+        ensures count { self.new.count ≡ self.old.count }
+        ensures quiet { self.new.quiet ≡ self.old.quiet }
+        ensures resumed { IfSome self.old.resumes (λ next. self.new.place ≡ next) }
+        ensures next { self.old.resumes ≡ None → self.old.place + 1 < self.old.count
+            → self.new.place ≡ self.old.place + 1 }
+        ensures first { self.old.resumes ≡ None → self.old.count ≤ self.old.place + 1
+            → self.new.place ≡ 0 }
+        ensures resumes { self.new.resumes ≡ None }
+    {
         let is_last = 0 < self.place || self.count <= 1;
         self.is_over = is_last && RUN_MICROS <= self.now;
         self.began = self.now;

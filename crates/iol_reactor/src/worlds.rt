@@ -1,13 +1,14 @@
 //! The world for new requests, and the one in which earlier requests finish.
 ghost use Rattle.std.specs.Prelude.{◌≡◌, Bool, ◌++◌, ◌∷◌, ◌+◌, ◌==◌, List, ℕ, [], None, Some, true};
-ghost use Rattle.std.specs.Prelude.{false, IfSome, IsNone, is_some, set, OnErr, OnOk, length, ◌<◌, ◌≤◌};
-ghost use Rattle.std.proofs.Props.{props};
+ghost use Rattle.std.specs.Prelude.{false, IfSome, IsNone, is_some, set, OnErr, OnOk, length, ◌<◌, not, count_by, ◌≢◌};
+ghost use Rattle.std.specs.Prelude.{if◌then◌else◌, min, ◌^◌, ◌-◌};
 ghost use Rattle.std.specs.Io.KnownBytes.{Appends};
-ghost use Rattle.iol_proc.specs.World.{TurnAt, sharing};
+ghost use Rattle.iol_core.specs.declared.descriptors.How.TheVariants as how;
 ghost use Rattle.iol_sock.specs.Gathers.{IsCalled};
-ghost use Rattle.iol_reactor.specs.Connections.{link_at};
+ghost use Rattle.iol_reactor.specs.Connections.{is_earlier, link_at};
 ghost use Rattle.iol_reactor.specs.Visits.{HasVisited};
 ghost use Rattle.iol_reactor.specs.LinkVisits.{IsOver, LinksStay, SlotProceeds, serving};
+ghost use Rattle.iol_reactor.specs.LinkSteps.{ReportsEnd, WorldsTurnAt};
 
 use crate::host::Host;
 use crate::limits::WORN_CONNECTION;
@@ -15,7 +16,6 @@ use crate::links::{Link, Links};
 use crate::outbox::Outbox;
 use crate::service::Service;
 use iol_back::backing::Backing;
-use iol_core::numbers::PoolId;
 use iol_proc::activity::Activity;
 use iol_proc::process::Process;
 use iol_proc::world::World;
@@ -55,33 +55,27 @@ pub enum Offered {
 /// The worlds, and the connections that clients have in them.
 #[derive(Drop)]
 pub struct Worlds<B: Backing, P: Process, V: Service<B, P>> {
-    pool: PoolId,
     links: Links,
     current: Host<B, P, V>,
     is_worn: bool,
 
     // The world before, while it has a connection with a client.
     retiring: Option<Host<B, P, V>>,
-
-    // The number of connections of each that have a client.
-    current_links: usize,
-    retiring_links: usize,
-    ghost pools: { (current.pool ≡ pool) × IfSome retiring (λ h. h.pool ≡ pool) } by { Prim.hlevel props },
 }
 
 impl<B: Backing + Drop, P: Process, V: Service<B, P>> Worlds<B, P, V> {
-    /// No client has a connection. The bytes that arrive on connections are placed in the pool.
-    pub fn new(world: World<B, P>, pool: PoolId, links: Links) -> Worlds<B, P, V>
+    /// No client has a connection.
+    pub fn new(world: World<B, P>, links: Links) -> Worlds<B, P, V>
         requires { V.starts world }
+        ensures world { result.current.world ≡ world }
+        ensures alone { result.retiring ≡ None }
+        ensures links { result.links ≡ links }
     {
         Worlds {
-            pool,
             links,
-            current: Host::new(world, pool),
+            current: Host::new(world),
             is_worn: false,
             retiring: None,
-            current_links: 0,
-            retiring_links: 0,
         }
     }
 
@@ -90,19 +84,20 @@ impl<B: Backing + Drop, P: Process, V: Service<B, P>> Worlds<B, P, V> {
         ensures table { OnOk result (self.new.links.table.items ≡
             self.old.links.table.items ++ None ∷ []) }
         ensures err { OnErr result (self.new.links.table.items ≡ self.old.links.table.items) }
-        ensures visits { LinksStay P.turns V.starts self.old.pool
+        ensures visits { LinksStay P.turns V.starts V.POOL
             (serving self.old.links.generation self.old.current.world
             (λ h. h.world) self.old.retiring)
             (serving self.new.links.generation self.new.current.world
             (λ h. h.world) self.new.retiring) }
-        ensures pool { self.new.pool ≡ self.old.pool }
     {
         self.links.add_place()
     }
 
     /// The number of clients that have a connection.
-    pub fn links(&self) -> usize {
-        self.current_links.saturating_add(self.retiring_links)
+    pub fn links(&self) -> usize
+        ensures { result ≡ count_by is_some self.now.links.table.items }
+    {
+        self.links.count()
     }
 
     /// Whether the client in this place has a connection.
@@ -113,7 +108,11 @@ impl<B: Backing + Drop, P: Process, V: Service<B, P>> Worlds<B, P, V> {
     }
 
     /// Whether the client in this place has a connection of an earlier world.
-    pub fn is_outdated(&self, slot: usize) -> bool {
+    pub fn is_outdated(&self, slot: usize) -> bool
+        ensures none { link_at self.now.links.table.items slot ≡ None → result ≡ false }
+        ensures link { IfSome (link_at self.now.links.table.items slot)
+            (λ l. result ≡ not (l.generation == self.now.links.generation)) }
+    {
         match self.links.get(slot) {
             Some(link) => !self.links.is_current(link),
             None => false,
@@ -121,12 +120,16 @@ impl<B: Backing + Drop, P: Process, V: Service<B, P>> Worlds<B, P, V> {
     }
 
     /// Whether the connection numbers of the current world are nearly used up.
-    pub fn is_worn(&self) -> bool {
+    pub fn is_worn(&self) -> bool
+        ensures { result ≡ self.now.is_worn }
+    {
         self.is_worn
     }
 
     /// Whether requests finish in the world before the current one.
-    pub fn is_retiring(&self) -> bool {
+    pub fn is_retiring(&self) -> bool
+        ensures { result ≡ is_some self.now.retiring }
+    {
         self.retiring.is_some()
     }
 
@@ -134,38 +137,46 @@ impl<B: Backing + Drop, P: Process, V: Service<B, P>> Worlds<B, P, V> {
     /// No world is retiring. After 2^64 - 1 renewals the new world is dropped, and nothing changes.
     pub fn renew(&mut self, world: World<B, P>)
         requires { V.starts world }
+        ensures takes { self.old.links.generation < 18446744073709551615 →
+            self.new.current.world ≡ world }
+        ensures retires { self.old.links.generation < 18446744073709551615 →
+            self.new.retiring ≡ (if count_by is_some self.old.links.table.items == 0
+            then None
+            else Some self.old.current) }
+        ensures full { self.old.links.generation ≡ 18446744073709551615 → self.new ≡ self.old }
         ensures table { self.new.links.table.items ≡ self.old.links.table.items }
-        ensures visits { LinksStay P.turns V.starts self.old.pool
+        ensures visits { LinksStay P.turns V.starts V.POOL
             (serving self.old.links.generation self.old.current.world
             (λ h. h.world) self.old.retiring)
             (serving self.new.links.generation self.new.current.world
             (λ h. h.world) self.new.retiring) }
-        ensures pool { self.new.pool ≡ self.old.pool }
     {
         if !self.links.renew() {
             drop(world);
             return;
         }
-        let next = Host::new(world, self.pool);
+        let next = Host::new(world);
         let before = mem::replace(&mut self.current, next);
         self.is_worn = false;
-        self.retiring_links = self.current_links;
-        self.current_links = 0;
         drop(self.retiring.replace(before));
         self.retire();
     }
 
     // Drops the world before, if no connection of it has a client.
     fn retire(&mut self)
+        ensures current { self.new.current ≡ self.old.current }
+        ensures retiring { self.new.retiring ≡
+            (if count_by (is_earlier self.old.links.generation) self.old.links.table.items == 0
+            then None
+            else self.old.retiring) }
         ensures links { self.new.links ≡ self.old.links }
-        ensures pool { self.new.pool ≡ self.old.pool }
-        ensures visits { LinksStay P.turns V.starts self.old.pool
+        ensures visits { LinksStay P.turns V.starts V.POOL
             (serving self.old.links.generation self.old.current.world
             (λ h. h.world) self.old.retiring)
             (serving self.new.links.generation self.new.current.world
             (λ h. h.world) self.new.retiring) }
     {
-        if self.retiring_links == 0 {
+        if self.links.earlier_count() == 0 {
             drop(self.retiring.take());
         }
     }
@@ -175,53 +186,53 @@ impl<B: Backing + Drop, P: Process, V: Service<B, P>> Worlds<B, P, V> {
     pub fn connect(&mut self, slot: usize) -> bool
         ensures begun { result ≡ true → ((c : ℕ) × (link_at self.new.links.table.items slot ≡
             Some (record { conn = c; generation = self.new.links.generation }))
-            × ∥ HasVisited P.turns V.starts self.old.pool c [] [] false self.new.current.world ∥₁) }
+            × ∥ HasVisited P.turns V.starts V.POOL c [] [] false self.new.current.world ∥₁) }
         ensures given { result ≡ true → (c : ℕ) × (self.new.links.table.items ≡ set
             self.old.links.table.items slot
             (Some (record { conn = c; generation = self.new.links.generation }))) }
         ensures refused { result ≡ false →
             self.new.links.table.items ≡ self.old.links.table.items }
-        ensures visits { LinksStay P.turns V.starts self.old.pool
+        ensures visits { LinksStay P.turns V.starts V.POOL
             (serving self.old.links.generation self.old.current.world
             (λ h. h.world) self.old.retiring)
             (serving self.new.links.generation self.new.current.world
             (λ h. h.world) self.new.retiring) }
-        ensures pool { self.new.pool ≡ self.old.pool }
     {
         let Some(conn) = self.current.connect() else {
             return false;
         };
         self.is_worn = conn.number() >= WORN_CONNECTION;
-        if !self.links.give(slot, conn) {
-            return false;
-        }
-        self.current_links = self.current_links.saturating_add(1);
-        true
+        self.links.give(slot, conn)
     }
 
     /// The client in this place gives up its connection, if it has one.
     pub fn release(&mut self, slot: usize)
         ensures table { self.new.links.table.items ≡ set self.old.links.table.items slot None }
-        ensures visits { LinksStay P.turns V.starts self.old.pool
+        ensures current { self.new.current ≡ self.old.current }
+        ensures serves { count_by (is_earlier self.new.links.generation) self.new.links.table.items
+            ≢ 0 → self.new.retiring ≡ self.old.retiring }
+        ensures visits { LinksStay P.turns V.starts V.POOL
             (serving self.old.links.generation self.old.current.world
             (λ h. h.world) self.old.retiring)
             (serving self.new.links.generation self.new.current.world
             (λ h. h.world) self.new.retiring) }
-        ensures pool { self.new.pool ≡ self.old.pool }
     {
         let Some(link) = self.links.take(slot) else {
             return;
         };
-        if self.links.is_current(link) {
-            self.current_links = self.current_links.saturating_sub(1);
-        } else {
-            self.retiring_links = self.retiring_links.saturating_sub(1);
+        if !self.links.is_current(link) {
             self.retire();
         }
     }
 
     /// The number of processes of both worlds.
-    pub fn processes(&self) -> usize {
+    pub fn processes(&self) -> usize
+        ensures alone { self.now.retiring ≡ None →
+            result ≡ length self.now.current.world.process_slots }
+        ensures both { IfSome self.now.retiring (λ h. result ≡
+            min (length self.now.current.world.process_slots + length h.world.process_slots)
+            (2 ^ 64 - 1)) }
+    {
         let earlier = match &self.retiring {
             Some(world) => world.processes(),
             None => 0,
@@ -232,22 +243,13 @@ impl<B: Backing + Drop, P: Process, V: Service<B, P>> Worlds<B, P, V> {
     /// Gives a turn to the process at an index, and returns its activity. The processes of the
     /// current world come first. None: there is no process at this index.
     pub fn turn_at(&mut self, place: usize) -> Option<Activity>
-        ensures current { place < length self.old.current.world.process_slots →
-            TurnAt sharing P.turns self.old.current.world place result self.new.current.world }
-        ensures retiring_stays { place < length self.old.current.world.process_slots →
-            self.new.retiring ≡ self.old.retiring }
-        ensures retiring { length self.old.current.world.process_slots ≤ place →
-            IfSome self.old.retiring (λ h. IfSome self.new.retiring (λ k.
-            (n : ℕ) × (place ≡ length self.old.current.world.process_slots + n)
-            × TurnAt sharing P.turns h.world n result k.world)) }
-        ensures retiring_remains { is_some self.new.retiring ≡ is_some self.old.retiring }
-        ensures current_stays { length self.old.current.world.process_slots ≤ place →
-            self.new.current ≡ self.old.current }
-        ensures none { length self.old.current.world.process_slots ≤ place →
-            self.old.retiring ≡ None → result ≡ None }
+        ensures turn { WorldsTurnAt P.turns place result
+            (serving self.old.links.generation self.old.current.world
+            (λ h. h.world) self.old.retiring)
+            (serving self.new.links.generation self.new.current.world
+            (λ h. h.world) self.new.retiring) }
         ensures links { self.new.links ≡ self.old.links }
-        ensures pool { self.new.pool ≡ self.old.pool }
-        ensures visits { LinksStay P.turns V.starts self.old.pool
+        ensures visits { LinksStay P.turns V.starts V.POOL
             (serving self.old.links.generation self.old.current.world
             (λ h. h.world) self.old.retiring)
             (serving self.new.links.generation self.new.current.world
@@ -265,9 +267,13 @@ impl<B: Backing + Drop, P: Process, V: Service<B, P>> Worlds<B, P, V> {
 
     /// The client in this place sends no more on its connection.
     pub fn close(&mut self, slot: usize)
+        ensures reported { ReportsEnd P.turns (link_at self.old.links.table.items slot) how.Done
+            (serving self.old.links.generation self.old.current.world
+            (λ h. h.world) self.old.retiring)
+            (serving self.new.links.generation self.new.current.world
+            (λ h. h.world) self.new.retiring) }
         ensures links { self.new.links ≡ self.old.links }
-        ensures pool { self.new.pool ≡ self.old.pool }
-        ensures visits { SlotProceeds P.turns V.starts self.old.pool
+        ensures visits { SlotProceeds P.turns V.starts V.POOL
             (link_at self.old.links.table.items slot) [] [] false
             (serving self.old.links.generation self.old.current.world
             (λ h. h.world) self.old.retiring)
@@ -290,9 +296,13 @@ impl<B: Backing + Drop, P: Process, V: Service<B, P>> Worlds<B, P, V> {
 
     /// The client at this index is gone, which is reported to the processes of its connection.
     pub fn hang_up(&mut self, slot: usize)
+        ensures reported { ReportsEnd P.turns (link_at self.old.links.table.items slot) how.Gone
+            (serving self.old.links.generation self.old.current.world
+            (λ h. h.world) self.old.retiring)
+            (serving self.new.links.generation self.new.current.world
+            (λ h. h.world) self.new.retiring) }
         ensures links { self.new.links ≡ self.old.links }
-        ensures pool { self.new.pool ≡ self.old.pool }
-        ensures visits { (gone : Bool) × SlotProceeds P.turns V.starts self.old.pool
+        ensures visits { (gone : Bool) × SlotProceeds P.turns V.starts V.POOL
             (link_at self.old.links.table.items slot) [] [] gone
             (serving self.old.links.generation self.old.current.world
             (λ h. h.world) self.old.retiring)
@@ -318,9 +328,11 @@ impl<B: Backing + Drop, P: Process, V: Service<B, P>> Worlds<B, P, V> {
         ensures over { result ≡ true → IsOver (link_at self.old.links.table.items slot)
             (serving self.new.links.generation self.new.current.world
             (λ h. h.world) self.new.retiring) }
+        ensures open { result ≡ false → IsOver (link_at self.old.links.table.items slot)
+            (serving self.new.links.generation self.new.current.world
+            (λ h. h.world) self.new.retiring) → ⊥ }
         ensures links { self.new.links ≡ self.old.links }
-        ensures pool { self.new.pool ≡ self.old.pool }
-        ensures visits { LinksStay P.turns V.starts self.old.pool
+        ensures visits { LinksStay P.turns V.starts V.POOL
             (serving self.old.links.generation self.old.current.world
             (λ h. h.world) self.old.retiring)
             (serving self.new.links.generation self.new.current.world
@@ -346,9 +358,8 @@ impl<B: Backing + Drop, P: Process, V: Service<B, P>> Worlds<B, P, V> {
     /// rest.
     pub fn hand_in<'b>(&mut self, slot: usize, bytes: &'b [u8]) -> &'b [u8]
         ensures links { self.new.links ≡ self.old.links }
-        ensures pool { self.new.pool ≡ self.old.pool }
         ensures visits { (came : List ℕ) × (bytes.now ≡ came ++ result.now)
-            × SlotProceeds P.turns V.starts self.old.pool
+            × SlotProceeds P.turns V.starts V.POOL
             (link_at self.old.links.table.items slot) came [] false
             (serving self.old.links.generation self.old.current.world
             (λ h. h.world) self.old.retiring)
@@ -375,9 +386,8 @@ impl<B: Backing + Drop, P: Process, V: Service<B, P>> Worlds<B, P, V> {
     /// most this number of bytes.
     pub fn collect(&mut self, slot: usize, outbox: &mut Outbox, most: u32) -> Collected
         ensures links { self.new.links ≡ self.old.links }
-        ensures pool { self.new.pool ≡ self.old.pool }
         ensures visits { (sent : List ℕ) × (outbox.new.bytes.items ≡ outbox.old.bytes.items ++ sent)
-            × SlotProceeds P.turns V.starts self.old.pool
+            × SlotProceeds P.turns V.starts V.POOL
             (link_at self.old.links.table.items slot) [] sent false
             (serving self.old.links.generation self.old.current.world
             (λ h. h.world) self.old.retiring)
@@ -408,10 +418,9 @@ impl<B: Backing + Drop, P: Process, V: Service<B, P>> Worlds<B, P, V> {
     /// this number of bytes.
     pub fn offer<G: Gather>(&mut self, slot: usize, taker: &mut G, most: u32) -> Offered
         ensures links { self.new.links ≡ self.old.links }
-        ensures pool { self.new.pool ≡ self.old.pool }
         ensures visits { (sent : List ℕ)
             × Appends (G.contents taker.old) (G.contents taker.new) sent
-            × SlotProceeds P.turns V.starts self.old.pool
+            × SlotProceeds P.turns V.starts V.POOL
             (link_at self.old.links.table.items slot) [] sent false
             (serving self.old.links.generation self.old.current.world
             (λ h. h.world) self.old.retiring)

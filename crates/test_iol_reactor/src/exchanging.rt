@@ -44,6 +44,10 @@ struct Lines {
 }
 
 impl Service<MemoryBacking, Echo> for Lines {
+    const POOL: u32 = 1;
+
+    ghost POOL = { 1 };
+
     fn frame(&self, alloc: Global, bytes: &[u8]) -> Result<Frame, AllocError> {
         let _ = alloc;
         Ok(match bytes.iter().position(|byte| *byte == b'\n') {
@@ -109,7 +113,7 @@ fn engine_of<'a>(alloc: Global) -> Result<Echoes<'a>, Refusal> {
     let mut limits = Limits::DEFAULT;
     limits.max_clients = 2;
     let world = world_of(alloc)?;
-    Ok(Engine::new(alloc, PoolId::new(1), world, limits)?)
+    Ok(Engine::new(alloc, world, limits)?)
 }
 
 // The bytes of one read, and of one write, at most; which calls block; whether the peer's end

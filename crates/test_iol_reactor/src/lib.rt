@@ -3,8 +3,6 @@
 #![tactic(auto)]
 
 #[cfg(test)]
-mod deadlines;
-#[cfg(test)]
 mod exchanging;
 #[cfg(test)]
 mod memory_socket;

@@ -4,4 +4,5 @@ use Rattle.flash_answers.proofs.client.Goals as goal
 pub returns-clause-answers : goal.returns-clause-answers
 returns-clause-answers g c =
     found_answered c.clients_are_answered.ensures g.S.Socket.supplied g.S.Socket.accepted g.V.Service.starts
-    g.V.Service.frames g.met.V.HonestSites.serves _ _ c.client.result c.client.ensures.history
+    g.V.Service.frames g.met.V.HonestSites.serves _ g.met.V.HonestSites.net _ c.client.result
+    c.client.ensures.history

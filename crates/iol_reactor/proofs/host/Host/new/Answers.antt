@@ -3,4 +3,4 @@ use Rattle.iol_reactor.proofs.host.Host.new.Goals as goal
 
 pub invariant_of-result : goal.invariant_of-result
 invariant_of-result g c =
-    record { served = began g.P.Process.turns g.V.Service.starts c.args.pool c.args.world c.requires }
+    record { served = began g.P.Process.turns g.V.Service.starts g.V.Service.POOL c.args.world c.requires }

@@ -5,9 +5,9 @@ use Rattle.iol_reactor.proofs.host.Host.turn_at.Goals as goal
 
 pub invariant_of-self : goal.invariant_of-self
 invariant_of-self g c = record {
-  served = proceeds g.P.Process.turns g.V.Service.starts c.args.self.now.pool c.args.self.now.world c.turn_at.new.self
+  served = proceeds g.P.Process.turns g.V.Service.starts g.V.Service.POOL c.args.self.now.world c.turn_at.new.self
       c.turn_at.ensures.honest
-      (λ honest. continues_on g.P.Process.turns c.args.self.now.pool 0 [] [] false _ _
+      (λ honest. continues_on g.P.Process.turns g.V.Service.POOL 0 [] [] false _ _
       (goes_turn_at g.P.Process.turns 0 _ _ _ _ (c.turn_at.ensures.run honest))) c.args.self.now.served;
 }
 
@@ -15,7 +15,7 @@ pub returns-clause-alone : goal.returns-clause-alone
 returns-clause-alone g c = λ n honest. goes_turn_at g.P.Process.turns n _ _ _ _ (c.turn_at.ensures.run honest)
 
 pub returns-clause-visits : goal.returns-clause-visits
-returns-clause-visits g c = visits_stay g.P.Process.turns g.V.Service.starts c.args.self.now.pool c.args.self.now.world
+returns-clause-visits g c = visits_stay g.P.Process.turns g.V.Service.starts g.V.Service.POOL c.args.self.now.world
     c.turn_at.new.self c.turn_at.ensures.honest
-    (λ n honest. carries_own g.P.Process.turns c.args.self.now.pool n [] [] false _ _
+    (λ n honest. carries_own g.P.Process.turns g.V.Service.POOL n [] [] false _ _
     (goes_turn_at g.P.Process.turns n _ _ _ _ (c.turn_at.ensures.run honest)))

@@ -7,7 +7,7 @@ use Rattle.iol_reactor.proofs.places.Places.admit.Goals as goal
 pub invariant_of-self : goal.invariant_of-self
 invariant_of-self g c = record {
   followed = all_admit g.P.Process.turns g.V.Service.starts g.V.Service.frames _ g.S.Socket.supplied g.S.Socket.accepted
-      _ _ _ _ _ _ _ _ c.new.result c.release.ensures.pool c.args.self.now.worlds.links.apart
+      _ _ _ _ _ _ _ c.new.result c.args.self.now.worlds.links.apart
       c.args.self.now.worlds.links.came
       (others_stay g.P.Process.turns g.V.Service.starts g.V.Service.frames _ _ _ _ c.release.ensures.visits)
       (λ j other. set_rest _ _ _ _ c.release.ensures.table j other)
@@ -23,7 +23,7 @@ invariant_of-self g c = record {
 pub invariant_of-self-else-slot-len : goal.invariant_of-self-else-slot-len
 invariant_of-self-else-slot-len g c = record {
   followed = all_past g.P.Process.turns g.V.Service.starts g.V.Service.frames _ g.S.Socket.supplied g.S.Socket.accepted
-      _ _ _ _ _ _ _ _ c.release.ensures.pool c.args.self.now.worlds.links.apart c.args.self.now.worlds.links.came
+      _ _ _ _ _ _ _ c.args.self.now.worlds.links.apart c.args.self.now.worlds.links.came
       (others_stay g.P.Process.turns g.V.Service.starts g.V.Service.frames _ _ _ _ c.release.ensures.visits)
       (λ j other. set_rest _ _ _ _ c.release.ensures.table j other)
       (omega (arith, c.if-slot-len.false, c.len.ensures)) c.args.self.now.followed;

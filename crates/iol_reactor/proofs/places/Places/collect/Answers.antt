@@ -36,8 +36,8 @@ invariant_of-self-then-most-eq0 g c = record {
 pub invariant_of-self-in-All : goal.invariant_of-self-in-All
 invariant_of-self-in-All g c = record {
   followed = all_move g.P.Process.turns g.V.Service.starts g.V.Service.frames _ g.S.Socket.supplied g.S.Socket.accepted
-      _ _ _ _ _ _ _ _ _ c.in-Some.client c.send.new.client
-      c.collect-collected.ensures.pool c.args.self.now.worlds.links.apart c.args.self.now.worlds.links.came
+      _ _ _ _ _ _ _ _ c.in-Some.client c.send.new.client
+      c.args.self.now.worlds.links.apart c.args.self.now.worlds.links.came
       (others_goes g.P.Process.turns g.V.Service.starts g.V.Service.frames _ _ _ _ _ _ _
       c.collect-collected.ensures.visits.2)
       (λ j _. links_rest _ _ c.collect-collected.ensures.links j)
@@ -63,8 +63,8 @@ invariant_of-self-in-All g c = record {
 pub invariant_of-self-in-Blocked : goal.invariant_of-self-in-Blocked
 invariant_of-self-in-Blocked g c = record {
   followed = all_move g.P.Process.turns g.V.Service.starts g.V.Service.frames _ g.S.Socket.supplied g.S.Socket.accepted
-      _ _ _ _ _ _ _ _ _ c.in-Some.client c.send.new.client
-      c.collect-collected.ensures.pool c.args.self.now.worlds.links.apart c.args.self.now.worlds.links.came
+      _ _ _ _ _ _ _ _ c.in-Some.client c.send.new.client
+      c.args.self.now.worlds.links.apart c.args.self.now.worlds.links.came
       (others_goes g.P.Process.turns g.V.Service.starts g.V.Service.frames _ _ _ _ _ _ _
       c.collect-collected.ensures.visits.2)
       (λ j _. links_rest _ _ c.collect-collected.ensures.links j)
@@ -90,8 +90,8 @@ invariant_of-self-in-Blocked g c = record {
 pub invariant_of-self-in-Failed : goal.invariant_of-self-in-Failed
 invariant_of-self-in-Failed g c = record {
   followed = all_move g.P.Process.turns g.V.Service.starts g.V.Service.frames _ g.S.Socket.supplied g.S.Socket.accepted
-      _ _ _ _ _ _ _ _ _ c.in-Some.client c.set_phase.new.self
-      c.collect-collected.ensures.pool c.args.self.now.worlds.links.apart c.args.self.now.worlds.links.came
+      _ _ _ _ _ _ _ _ c.in-Some.client c.set_phase.new.self
+      c.args.self.now.worlds.links.apart c.args.self.now.worlds.links.came
       (others_goes g.P.Process.turns g.V.Service.starts g.V.Service.frames _ _ _ _ _ _ _
       c.collect-collected.ensures.visits.2)
       (λ j _. links_rest _ _ c.collect-collected.ensures.links j)

@@ -17,8 +17,8 @@ invariant_of-self-then-is_given g c = record {
 pub invariant_of-self-in-Answering : goal.invariant_of-self-in-Answering
 invariant_of-self-in-Answering g c = record {
   followed = all_move g.P.Process.turns g.V.Service.starts g.V.Service.frames _ g.S.Socket.supplied g.S.Socket.accepted
-      _ _ _ _ _ _ _ _ _ c.in-Some.client c.give.new.self
-      c.hand_in-rest.ensures.pool c.args.self.now.worlds.links.apart c.args.self.now.worlds.links.came
+      _ _ _ _ _ _ _ _ c.in-Some.client c.give.new.self
+      c.args.self.now.worlds.links.apart c.args.self.now.worlds.links.came
       (others_goes g.P.Process.turns g.V.Service.starts g.V.Service.frames _ _ _ _ _ _ _
       c.hand_in-rest.ensures.visits.2)
       (λ j _. links_rest _ _ c.hand_in-rest.ensures.links j)

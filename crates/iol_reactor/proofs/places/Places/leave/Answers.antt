@@ -10,8 +10,8 @@ invariant_of-self g c = record { followed = c.args.self.now.followed }
 pub invariant_of-self-then-is_between : goal.invariant_of-self-then-is_between
 invariant_of-self-then-is_between g c = record {
   followed = all_move g.P.Process.turns g.V.Service.starts g.V.Service.frames _ g.S.Socket.supplied g.S.Socket.accepted
-      _ _ _ _ _ _ _ _ _ c.in-Some.client c.set_phase.new.self
-      c.close.ensures.pool c.args.self.now.worlds.links.apart c.args.self.now.worlds.links.came
+      _ _ _ _ _ _ _ _ c.in-Some.client c.set_phase.new.self
+      c.args.self.now.worlds.links.apart c.args.self.now.worlds.links.came
       (others_goes g.P.Process.turns g.V.Service.starts g.V.Service.frames _ _ _ _ _ _ _ c.close.ensures.visits)
       (λ j _. links_rest _ _ c.close.ensures.links j)
       (omega (arith, c.if-slot-len.false, c.len.ensures)) c.index_mut.ensures.value c.in-Some.is

@@ -32,8 +32,8 @@ invariant_of-self-then-not-is_flushed g c = record {
 pub invariant_of-self-in-Some : goal.invariant_of-self-in-Some
 invariant_of-self-in-Some g c = record {
   followed = all_move g.P.Process.turns g.V.Service.starts g.V.Service.frames _ g.S.Socket.supplied g.S.Socket.accepted
-      _ _ _ _ _ _ _ _ _ c.in-Some.client c.touch.new.client
-      c.offer-offered.ensures.pool c.args.self.now.worlds.links.apart c.args.self.now.worlds.links.came
+      _ _ _ _ _ _ _ _ c.in-Some.client c.touch.new.client
+      c.args.self.now.worlds.links.apart c.args.self.now.worlds.links.came
       (others_goes g.P.Process.turns g.V.Service.starts g.V.Service.frames _ _ _ _ _ _ _
       c.offer-offered.ensures.visits.2)
       (λ j _. links_rest _ _ c.offer-offered.ensures.links j)

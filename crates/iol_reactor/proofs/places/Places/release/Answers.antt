@@ -5,7 +5,7 @@ use Rattle.iol_reactor.proofs.places.Places.release.Goals as goal
 pub invariant_of-self : goal.invariant_of-self
 invariant_of-self g c = record {
   followed = all_hung_up g.P.Process.turns g.V.Service.starts g.V.Service.frames _ g.S.Socket.supplied
-      g.S.Socket.accepted _ _ _ _ _ _ _ _ c.release.ensures.pool c.args.self.now.worlds.links.apart
+      g.S.Socket.accepted _ _ _ _ _ _ _ c.args.self.now.worlds.links.apart
       c.args.self.now.worlds.links.came
       (others_stay g.P.Process.turns g.V.Service.starts g.V.Service.frames _ _ _ _ c.release.ensures.visits)
       (λ j other. set_rest _ _ _ _ c.release.ensures.table j other)

@@ -4,6 +4,6 @@ use Rattle.iol_reactor.proofs.places.Places.turn_at.Goals as goal
 pub invariant_of-self : goal.invariant_of-self
 invariant_of-self g c = record {
   followed = all_stay g.P.Process.turns g.V.Service.starts g.V.Service.frames _ g.S.Socket.supplied g.S.Socket.accepted
-      _ _ _ _ _ _ _ c.turn_at.ensures.pool c.args.self.now.worlds.links.came c.turn_at.ensures.visits
+      _ _ _ _ _ _ c.args.self.now.worlds.links.came c.turn_at.ensures.visits
       (λ j. links_rest _ _ c.turn_at.ensures.links j) c.args.self.now.followed;
 }

@@ -9,8 +9,8 @@ invariant_of-self g c = record { followed = c.args.self.now.followed }
 pub invariant_of-self-in-Leaving : goal.invariant_of-self-in-Leaving
 invariant_of-self-in-Leaving g c = record {
   followed = all_move g.P.Process.turns g.V.Service.starts g.V.Service.frames _ g.S.Socket.supplied g.S.Socket.accepted
-      _ _ _ _ _ _ _ _ _ c.in-Some.client c.set_phase.new.self
-      c.release.ensures.pool c.args.self.now.worlds.links.apart c.args.self.now.worlds.links.came
+      _ _ _ _ _ _ _ _ c.in-Some.client c.set_phase.new.self
+      c.args.self.now.worlds.links.apart c.args.self.now.worlds.links.came
       (others_stay g.P.Process.turns g.V.Service.starts g.V.Service.frames _ _ _ _ c.release.ensures.visits)
       (λ j other. set_rest _ _ _ _ c.release.ensures.table j other)
       (omega (arith, c.if-slot-len.false, c.len.ensures)) c.index_mut.ensures.value c.in-Some.is

@@ -1,4 +1,4 @@
-use Rattle.std.proofs.Common.{◌∙◌, ap, refl, sym, [], arith, false}
+use Rattle.std.proofs.Common.{◌∙◌, refl, sym, [], arith, false}
 use Rattle.iol_serve.proofs.Steps.{appends_none}
 use Rattle.iol_reactor.proofs.LinkVisits.{slot_before, slot_current, slot_same}
 use Rattle.iol_reactor.proofs.worlds.Worlds.offer.Goals as goal
@@ -7,8 +7,8 @@ pub returns-then-is_current-clause-visits : goal.returns-then-is_current-clause-
 returns-then-is_current-clause-visits g c = let v = c.offer.ensures.visits in (
   v.0,
   v.1,
-  slot_current g.P.Process.turns g.V.Service.starts _ _ _ _ _ _ _ c.in-Some.link _ [] v.0 false (sym c.get.ensures
-      ∙ c.in-Some.is) c.conn-conn.ensures c.args.self.now.pools.0 (sym c.is_current.ensures ∙ c.if-is_current.true) v.2,
+  slot_current g.P.Process.turns g.V.Service.starts _ _ _ _ _ _ c.in-Some.link _ [] v.0 false (sym c.get.ensures
+      ∙ c.in-Some.is) c.conn-conn.ensures (sym c.is_current.ensures ∙ c.if-is_current.true) v.2,
 )
 
 pub returns-then-not-is_before-clause-visits : goal.returns-then-not-is_before-clause-visits
@@ -19,11 +19,11 @@ pub returns-in-Some-retiring-clause-visits : goal.returns-in-Some-retiring-claus
 returns-in-Some-retiring-clause-visits g c = let v = c.offer-in-Some-retiring.ensures.visits in (
   v.0,
   v.1,
-  slot_before g.P.Process.turns g.V.Service.starts _ c.in-Some-retiring.world.pool _ _ c.in-Some-retiring.world.world
+  slot_before g.P.Process.turns g.V.Service.starts _ _ _ c.in-Some-retiring.world.world
       c.offer-in-Some-retiring.new.self.world _ _ c.in-Some.link c.conn-conn.result [] v.0 false (sym c.get.ensures
       ∙ c.in-Some.is) c.conn-conn.ensures
-      (rw c.in-Some-retiring.is at c.args.self.now.pools.1) (rw c.in-Some-retiring.is refl) (sym c.is_current.ensures
-      ∙ c.if-is_current.false) (c.is_before.ensures (grind (arith, c.if-not-is_before.false))) v.2,
+      (rw c.in-Some-retiring.is refl) (sym c.is_current.ensures
+      ∙ c.if-is_current.false) (sym c.is_before.ensures ∙ grind (arith, c.if-not-is_before.false)) v.2,
 )
 
 pub returns-in-None-clause-visits : goal.returns-in-None-clause-visits
