@@ -1,7 +1,7 @@
 -- The world of a site of files.
 use Rattle.std.specs.Prelude.{ℕ, Bool, List, [], IsTrue}
 use Rattle.iol_back.specs.Disk.{Disk}
-use Rattle.iol_core.specs.declared.configuration.Config.{Config}
+use Rattle.iol_core.specs.declared.configuration.TheConstants.Config.{DEFAULT}
 use Rattle.iol_core.specs.declared.events.Reply.{Reply}
 use Rattle.iol_proc.specs.World.{Stage}
 use Rattle.iol_system.specs.Machine.{SystemState}
@@ -11,15 +11,14 @@ use Rattle.flash_lite.specs.HostedSite.{HostsIfHonest, HostsOver}
 use Rattle.flash_lite.specs.Prelude.{AreFilesOf}
 use Rattle.flash_lite.specs.declared.site.Site.{Site}
 
--- The world of a site of these files over a store, before its first turn: it was set up in a new system without any
--- other event. Over an honest store it is the site's world in the copying machine, to which the server's laws apply.
+-- The world of a site of these files over a store, before its first turn: it was set up in a new system with the
+-- default parameters, without any other event. Over an honest store it is the site's world in the copying machine, to which the server's laws apply.
 pub record IsWorldOf (names : List (List ℕ)) (store : Disk) (world : Stage SystemState (Actor Worker)) : Type 0 where
   pub site : Site
   pub files : AreFilesOf names site.files.items
-  pub config : Config
   pub replies : List Reply
   pub idle : Bool
-  pub over : HostsOver config store site [] replies 0 idle world
+  pub over : HostsOver DEFAULT store site [] replies 0 idle world
   pub honest : HostsIfHonest store site [] replies 0 idle world
 
 -- A world of some site over some store, before its first turn.

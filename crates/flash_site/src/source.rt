@@ -1,5 +1,5 @@
 //! Reads a site from a folder, and again when it changes.
-ghost use Rattle.std.specs.Prelude.{◌≡◌, OnErr};
+ghost use Rattle.std.specs.Prelude.{◌≡◌, IfOk, None, OnErr};
 ghost use Rattle.flash_site.specs.Reads.{StaysUnlessRead};
 ghost use Rattle.flash_site.specs.World.{BeginsSite};
 
@@ -67,7 +67,10 @@ pub struct Source<R: Files> {
 impl<R: Files + Clock + AllocGlobal + Clone + Drop> Source<R> {
     /// The site of a folder. If it has at most `preload` bytes, they are read into memory;
     /// otherwise, or without `preload`, the site is served from the folder.
-    pub fn new(rt: &R, root: &str, preload: Option<u64>) -> io::Result<Source<R>> {
+    pub fn new(rt: &R, root: &str, preload: Option<u64>) -> io::Result<Source<R>>
+        ensures preload { IfOk result (λ source. source.preload ≡ preload) }
+        ensures unread { IfOk result (λ source. source.index ≡ None) }
+    {
         Ok(Source {
             rt: rt.clone()?,
             root: String::from_str(rt.alloc(), root)?,

@@ -1,12 +1,17 @@
 //! The options of the command line.
-ghost use Rattle.std.specs.Prelude.{◌≡◌, IfSome, Some, None, true, codes, option_map};
+ghost use Rattle.std.specs.Prelude.{◌≡◌, ◌*◌, ℕ, Option, IfSome, Some, None, true, codes};
+ghost use Rattle.std.specs.Prelude.{option_map};
+ghost use Rattle.std.specs.Option.{option_map_or, unwrap_or};
 ghost use Rattle.clap.specs.Words.{first_value, found_of, one_text};
+ghost use Rattle.flashd.specs.Options.{ReadsText, SetsLimits};
+ghost use Rattle.iol_reactor.specs.declared.limits.TheConstants.Limits.{DEFAULT};
 
 use clap::{Arg, ArgAction, ArgMatches, Command, value_parser};
 use flash_site::source::PRELOAD_BYTES;
 use iol_reactor::limits::Limits;
 use std::alloc::{AllocError, Global};
 use std::net::SocketAddr;
+use std::str::FromStr;
 
 const VERSION: &str = "0.1.0";
 
@@ -52,6 +57,10 @@ impl<'a> Options<'a> {
             → IfSome result (λ o. o.preload ≡ None) }
         ensures memory { one_text (found_of matches.now) (codes "memory-only") ≡ Some (codes "true")
             → IfSome result (λ o. o.memory_only ≡ true) }
+        ensures listen { IfSome result (λ o. ReadsText ⟦<SocketAddr as FromStr>⟧.from_str_gives
+            (one_text (found_of matches.now) (codes "listen")) (Some o.listen)) }
+        ensures limits { IfSome result (λ o. SetsLimits ⟦<u32 as FromStr>⟧.from_str_gives
+            (found_of matches.now) o.limits) }
     {
         let listen = matches.get_one::<SocketAddr>("listen")?;
         let root = matches.get_str("root")?;
@@ -81,23 +90,62 @@ fn preload_of(matches: &ArgMatches<'_>) -> Option<u64>
     }
 }
 
+// The number that an option has as its value.
+fn number_of(matches: &ArgMatches<'_>, id: &str) -> Option<u32>
+    ensures { ReadsText ⟦<u32 as FromStr>⟧.from_str_gives (one_text (found_of matches.now) id.now)
+        result }
+{
+    matches.get_one::<u32>(id)
+}
+
 // The limits of the event loop, with the given changes.
-fn limits_of(matches: &ArgMatches<'_>) -> Limits {
-    let mut limits = Limits::DEFAULT;
-    limits.stop_after = matches.get_one::<u32>("stop-after");
-    if let Some(count) = matches.get_one::<u32>("max-clients") {
-        limits.max_clients = count as usize;
+fn limits_of(matches: &ArgMatches<'_>) -> Limits
+    ensures { SetsLimits ⟦<u32 as FromStr>⟧.from_str_gives (found_of matches.now) result }
+{
+    Limits {
+        stop_after: number_of(matches, "stop-after"),
+        max_clients: clients_of(matches),
+        idle_millis: millis_of(matches, "idle-timeout", Limits::DEFAULT.idle_millis),
+        head_millis: millis_of(matches, "request-timeout", Limits::DEFAULT.head_millis),
+        min_rate: rate_of(matches),
+        ..Limits::DEFAULT
     }
-    if let Some(seconds) = matches.get_one::<u32>("idle-timeout") {
-        limits.idle_millis = u64::from(seconds).saturating_mul(MILLIS);
+}
+
+// The maximum number of clients.
+fn clients_of(matches: &ArgMatches<'_>) -> usize
+    ensures { (count : Option ℕ) × ReadsText ⟦<u32 as FromStr>⟧.from_str_gives
+        (one_text (found_of matches.now) (codes "max-clients")) count
+        × (result ≡ unwrap_or count DEFAULT.max_clients) }
+{
+    match number_of(matches, "max-clients") {
+        Some(count) => count as usize,
+        None => Limits::DEFAULT.max_clients,
     }
-    if let Some(seconds) = matches.get_one::<u32>("request-timeout") {
-        limits.head_millis = u64::from(seconds).saturating_mul(MILLIS);
+}
+
+// The milliseconds of an option in seconds, or this default.
+fn millis_of(matches: &ArgMatches<'_>, id: &str, default: u64) -> u64
+    ensures { (seconds : Option ℕ) × ReadsText ⟦<u32 as FromStr>⟧.from_str_gives
+        (one_text (found_of matches.now) id.now) seconds
+        × (result ≡ option_map_or (λ n. n * 1000) seconds default) }
+{
+    match number_of(matches, id) {
+        Some(seconds) => u64::from(seconds).saturating_mul(MILLIS),
+        None => default,
     }
-    if let Some(bytes) = matches.get_one::<u32>("min-rate") {
-        limits.min_rate = u64::from(bytes);
+}
+
+// The minimum rate of a client, in bytes per second.
+fn rate_of(matches: &ArgMatches<'_>) -> u64
+    ensures { (bytes : Option ℕ) × ReadsText ⟦<u32 as FromStr>⟧.from_str_gives
+        (one_text (found_of matches.now) (codes "min-rate")) bytes
+        × (result ≡ unwrap_or bytes DEFAULT.min_rate) }
+{
+    match number_of(matches, "min-rate") {
+        Some(bytes) => u64::from(bytes),
+        None => Limits::DEFAULT.min_rate,
     }
-    limits
 }
 
 /// The command line: its options, and their help texts.

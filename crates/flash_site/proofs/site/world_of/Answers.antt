@@ -7,7 +7,6 @@ returns g c = record {
   site = c.in_ok-site.site;
   files = subst (λ (names : List (List ℕ)). AreFilesOf names c.in_ok-site.site.files.items) c.index.ensures.names
       c.in_ok-site.ensures.files;
-  config = _;
   replies = c.in_ok-hosted.hosted.replies.items;
   idle = c.in_ok-hosted.hosted.idle;
   over = c.in_ok-hosted.ensures.shared;
