@@ -12,7 +12,8 @@ use Rattle.flash_lite.specs.Prelude.{AreFilesOf}
 use Rattle.flash_lite.specs.declared.site.Site.{Site}
 
 -- The world of a site of these files over a store, before its first turn: it was set up in a new system with the
--- default parameters, without any other event. Over an honest store it is the site's world in the copying machine, to which the server's laws apply.
+-- default parameters, without any other event. Over an honest store it is the site's world in the copying machine, to
+-- which the server's laws apply.
 pub record IsWorldOf (names : List (List ℕ)) (store : Disk) (world : Stage SystemState (Actor Worker)) : Type 0 where
   pub site : Site
   pub files : AreFilesOf names site.files.items

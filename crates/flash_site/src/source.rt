@@ -69,6 +69,7 @@ impl<R: Files + Clock + AllocGlobal + Clone + Drop> Source<R> {
     /// otherwise, or without `preload`, the site is served from the folder.
     pub fn new(rt: &R, root: &str, preload: Option<u64>) -> io::Result<Source<R>>
         ensures preload { IfOk result (λ source. source.preload ≡ preload) }
+        ensures root { IfOk result (λ source. source.root.bytes.items ≡ root.now) }
         ensures unread { IfOk result (λ source. source.index ≡ None) }
     {
         Ok(Source {

@@ -47,7 +47,7 @@ pub struct Options<'a> {
 }
 
 impl<'a> Options<'a> {
-    /// The options. None: the address to listen on is invalid.
+    /// The options. None: there is no valid address to listen on, or no folder.
     pub fn of(matches: &ArgMatches<'a>) -> Option<Options<'a>>
         ensures root { IfSome result (λ o. first_value (found_of matches.now) (codes "root")
             ≡ Some o.root.now) }
@@ -90,7 +90,7 @@ fn preload_of(matches: &ArgMatches<'_>) -> Option<u64>
     }
 }
 
-// The number that an option has as its value.
+// The number that an option has as its value. None: it has none, or its text is no number.
 fn number_of(matches: &ArgMatches<'_>, id: &str) -> Option<u32>
     ensures { ReadsText ⟦<u32 as FromStr>⟧.from_str_gives (one_text (found_of matches.now) id.now)
         result }

@@ -24,7 +24,7 @@ abbrev pub is_current : (generation : ℕ) → Option Link → Bool
 is_current generation None = false
 is_current generation (Some l) = l.generation == generation
 
--- a client has a connection of an earlier world
+-- a client has a connection of another world than the current one, which is an earlier one by HaveCome
 abbrev pub is_earlier : (generation : ℕ) → Option Link → Bool
 is_earlier generation None = false
 is_earlier generation (Some l) = not (l.generation == generation)

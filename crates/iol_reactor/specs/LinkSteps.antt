@@ -11,14 +11,14 @@ use Rattle.iol_reactor.specs.declared.links.Link.{Link}
 
 module _ {P : Type 0} (turns : TransitionRelation P) where
   -- A turn of the process at this index, with this activity. The processes of the current world come first. The other
-  -- world is unchanged. None: there is no process at this index.
+  -- world is unchanged. None: neither world has a process at this index.
   pub record WorldsTurnAt (place : ℕ) (activity : Option Activity) (s after : Serving P) : Type 0 where
     pub of_current : place < length s.current.process_slots
         → TurnAt sharing turns s.current place activity after.current
     pub before_stays : place < length s.current.process_slots → after.before ≡ s.before
     pub of_before : length s.current.process_slots ≤ place → IfSome s.before (λ w. IfSome after.before (λ u.
         (n : ℕ) × (place ≡ length s.current.process_slots + n) × TurnAt sharing turns w n activity u))
-    pub before_remains : is_some after.before ≡ is_some s.before
+    pub before_serves : is_some after.before ≡ is_some s.before
     pub current_stays : length s.current.process_slots ≤ place → after.current ≡ s.current
     pub none : length s.current.process_slots ≤ place → s.before ≡ None → activity ≡ None
 

@@ -1,5 +1,5 @@
 //! The clients and the worlds that serve them, for all kinds of sockets.
-ghost use Rattle.std.specs.Prelude.{◌≡◌, ◌<◌, ◌-◌, [], get_or, length, max, nat_lt, None, Some, IfNone, IfOk, IfSome};
+ghost use Rattle.std.specs.Prelude.{◌≡◌, ◌<◌, ◌≤◌, ◌-◌, [], get_or, length, max, nat_lt, None, Some, IfNone, IfOk, IfSome};
 ghost use Rattle.iol_reactor.specs.Served.{HasKnownHistory, IsEmpty};
 
 use crate::client::Client;
@@ -72,6 +72,9 @@ impl<S: Socket + Drop, B: Backing + Drop, P: Process, V: Service<B, P>> Engine<S
         ensures world { IfOk result (λ engine. engine.places.worlds.current.world ≡ world) }
         ensures empty { IfOk result (λ engine. engine.places.clients.items ≡ []) }
         ensures limits { IfOk result (λ engine. engine.limits ≡ limits) }
+        ensures free { IfOk result (λ engine. engine.free.items ≡ []) }
+        ensures time { IfOk result (λ engine. engine.now ≡ 0) }
+        ensures alone { IfOk result (λ engine. engine.places.worlds.retiring ≡ None) }
     {
         match Room::new(alloc, &limits) {
             Ok(room) => Ok(Engine::within(alloc, room, world, limits)),
@@ -94,6 +97,9 @@ impl<S: Socket + Drop, B: Backing + Drop, P: Process, V: Service<B, P>> Engine<S
         ensures world { result.places.worlds.current.world ≡ world }
         ensures empty { result.places.clients.items ≡ [] }
         ensures limits { result.limits ≡ limits }
+        ensures free { result.free ≡ room.free }
+        ensures time { result.now ≡ 0 }
+        ensures alone { result.places.worlds.retiring ≡ None }
     {
         Engine {
             alloc,
@@ -118,7 +124,7 @@ impl<S: Socket + Drop, B: Backing + Drop, P: Process, V: Service<B, P>> Engine<S
         }
     }
 
-    /// The number of clients.
+    /// The number of clients: that of places, without the free ones.
     pub fn count(&self) -> usize
         ensures { result ≡ length self.entry.now.places.clients.items
             - length self.entry.now.free.items }
@@ -148,7 +154,7 @@ impl<S: Socket + Drop, B: Backing + Drop, P: Process, V: Service<B, P>> Engine<S
     }
 
     /// New requests go to this world from now on, and those in progress finish in the present one.
-    /// No world is retiring.
+    /// A world that is still retiring is dropped.
     pub fn renew(&mut self, world: World<B, P>)
         requires { V.starts world }
         ensures clients { self.new.places.clients ≡ self.old.places.clients }
@@ -202,7 +208,10 @@ impl<S: Socket + Drop, B: Backing + Drop, P: Process, V: Service<B, P>> Engine<S
 
     // Adds a place, if one more is allowed, and returns it.
     fn add_place(&mut self) -> Option<usize>
-        ensures { IfSome result (λ slot. slot < self.old.limits.max_clients) }
+        ensures within { IfSome result (λ slot. slot < self.old.limits.max_clients) }
+        ensures last { IfSome result (λ slot. slot ≡ length self.old.places.clients.items) }
+        ensures full { self.old.limits.max_clients ≤ length self.old.places.clients.items →
+            (result ≡ None) × (self.new ≡ self.old) }
     {
         let slot = self.places.len();
         if slot >= self.limits.max_clients

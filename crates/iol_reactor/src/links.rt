@@ -65,6 +65,7 @@ impl Links {
         ensures current { self.new.generation ≡ self.old.generation }
         ensures table { OnOk result (self.new.table.items ≡ self.old.table.items ++ None ∷ []) }
         ensures err { OnErr result (self.new.table.items ≡ self.old.table.items) }
+        ensures last { self.new.last ≡ self.old.last }
     {
         self.table.push(None)?;
         Ok(())
@@ -114,14 +115,15 @@ impl Links {
     }
 
     /// The client at this index has this connection of the current world from now on. False: it
-    /// cannot have it, since it has one, or since connections of a world have ascending numbers.
+    /// cannot have it, since it has one, since there is no such place, or since connections of a
+    /// world have ascending numbers.
     pub fn give(&mut self, slot: usize, conn: ConnId) -> bool
         ensures current { self.new.generation ≡ self.old.generation }
         ensures given { result ≡ true → self.new.table.items ≡ set self.old.table.items slot
             (Some (record { conn = conn; generation = self.old.generation })) }
         ensures at { result ≡ true → link_at self.new.table.items slot ≡
             Some (record { conn = conn; generation = self.old.generation }) }
-        ensures refused { result ≡ false → self.new.table.items ≡ self.old.table.items }
+        ensures refused { result ≡ false → self.new ≡ self.old }
         ensures reason { result ≡ false → (conn ≤ self.old.last)
             ⊎ ((length self.old.table.items ≤ slot)
             ⊎ (is_some (link_at self.old.table.items slot) ≡ true)) }
@@ -145,6 +147,7 @@ impl Links {
     pub fn take(&mut self, slot: usize) -> Option<Link>
         ensures current { self.new.generation ≡ self.old.generation }
         ensures taken { result ≡ link_at self.old.table.items slot }
+        ensures last { self.new.last ≡ self.old.last }
         ensures table { self.new.table.items ≡ set self.old.table.items slot None }
     {
         let taken = self.get(slot);
@@ -181,7 +184,7 @@ impl Links {
     }
 }
 
-// 1 if a client has a connection of the current world.
+// 1 if a client has a connection of the current world, else 0.
 fn count_current(link: &Option<Link>, generation: u64) -> usize
     ensures { result ≡ (if is_current generation link.now then 1 else 0) }
 {
@@ -191,7 +194,7 @@ fn count_current(link: &Option<Link>, generation: u64) -> usize
     }
 }
 
-// 1 if a client has a connection of an earlier world.
+// 1 if a client has a connection of an earlier world, else 0.
 fn count_earlier(link: &Option<Link>, generation: u64) -> usize
     ensures { result ≡ (if is_earlier generation link.now then 1 else 0) }
 {

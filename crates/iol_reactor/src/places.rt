@@ -133,7 +133,7 @@ impl<S: Socket + Drop, B: Backing + Drop, P: Process, V: Service<B, P>> Places<S
     }
 
     /// New requests go to this world from now on, and those in progress finish in the present one.
-    /// No world is retiring.
+    /// A world that is still retiring is dropped.
     pub fn renew(&mut self, world: World<B, P>)
         requires { V.starts world }
         ensures clients { self.new.clients ≡ self.old.clients }
@@ -156,6 +156,7 @@ impl<S: Socket + Drop, B: Backing + Drop, P: Process, V: Service<B, P>> Places<S
             (serving self.new.worlds.links.generation self.new.worlds.current.world
             (λ h. h.world) self.new.worlds.retiring) }
         ensures clients { self.new.clients ≡ self.old.clients }
+        ensures links { self.new.worlds.links ≡ self.old.worlds.links }
     {
         self.worlds.turn_at(place)
     }
@@ -169,6 +170,7 @@ impl<S: Socket + Drop, B: Backing + Drop, P: Process, V: Service<B, P>> Places<S
             (serving self.new.worlds.links.generation self.new.worlds.current.world
             (λ h. h.world) self.new.worlds.retiring) → ⊥ }
         ensures clients { self.new.clients ≡ self.old.clients }
+        ensures links { self.new.worlds.links ≡ self.old.worlds.links }
     {
         self.worlds.is_over(slot)
     }

@@ -1,5 +1,5 @@
 //! The loop: it polls the sockets, accepts clients, and lets the engine work.
-ghost use Rattle.std.specs.Prelude.{◌≡◌, ◌≤◌, IfOk, Ok, OnOk, Some, length, true};
+ghost use Rattle.std.specs.Prelude.{◌≡◌, ◌≤◌, [], IfOk, Ok, OnOk, Some, length, true};
 ghost use Rattle.iol_reactor.specs.Accepting.{StaysWithin};
 
 use crate::accept::{Acceptor, Listener};
@@ -48,6 +48,7 @@ impl<B: Backing + Drop, P: Process, V: Service<B, P>> Reactor<TcpListener, B, P,
         ensures left { IfOk result (λ reactor. reactor.acceptor.left ≡ limits.stop_after) }
         ensures world { IfOk result (λ reactor. reactor.engine.places.worlds.current.world ≡ world) }
         ensures limits { IfOk result (λ reactor. reactor.engine.limits ≡ limits) }
+        ensures empty { IfOk result (λ reactor. reactor.engine.places.clients.items ≡ []) }
     {
         match listen(net, address) {
             Ok((listener, poll)) => {

@@ -31,7 +31,8 @@ pub struct Room<S> {
 impl<S: Drop> Room<S> {
     /// Room for as many clients as the limits allow.
     pub fn new(alloc: Global, limits: &Limits) -> Result<Room<S>, AllocError>
-        ensures { IfOk result (λ room. room.clients.items ≡ []) }
+        ensures clients { IfOk result (λ room. room.clients.items ≡ []) }
+        ensures free { IfOk result (λ room. room.free.items ≡ []) }
     {
         let most = limits.max_clients;
         Ok(Room {

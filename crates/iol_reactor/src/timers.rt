@@ -1,5 +1,5 @@
 //! The queues of deadlines, one for each limit.
-ghost use Rattle.std.specs.Prelude.{◌≡◌, ◌/◌, IfOk, max};
+ghost use Rattle.std.specs.Prelude.{◌≡◌, ◌/◌, [], IfOk, max};
 
 use crate::deadlines::Deadlines;
 use crate::limits::Limits;
@@ -35,6 +35,9 @@ fn look_of(millis: u64) -> u64
 impl Timers {
     /// No deadline yet, and memory for one of each kind for all clients.
     pub fn new(alloc: Global, limits: &Limits) -> Result<Timers, AllocError>
+        ensures empty { IfOk result (λ timers. (timers.silences.entries.items ≡ [])
+            × (timers.heads.entries.items ≡ []) × (timers.rates.entries.items ≡ [])
+            × (timers.drains.entries.items ≡ []) × (timers.parks.entries.items ≡ [])) }
         ensures silences { IfOk result
             (λ timers. timers.silences.delay ≡ max (limits.now.idle_millis / LOOKS) 1) }
         ensures heads { IfOk result

@@ -1,5 +1,6 @@
 //! The order of process turns, and the end of a run of turns.
-ghost use Rattle.std.specs.Prelude.{◌≡◌, ◌≤◌, ◌<◌, ◌+◌, None, IfSome, max, nat_le};
+ghost use Rattle.std.specs.Prelude.{◌≡◌, ◌≤◌, ◌<◌, ◌+◌, ◌&&◌, ◌||◌, None, Some, IfSome, max, nat_le};
+ghost use Rattle.std.specs.Prelude.{if◌then◌else◌, nat_lt};
 ghost use Rattle.std.proofs.Props.{props};
 
 use crate::limits::{RUN_MICROS, SLICE_MICROS, UNTIMED_TURNS};
@@ -56,6 +57,8 @@ impl Order {
         ensures count { result.count ≡ count }
         ensures place { result.place ≡ 0 }
         ensures quiet { result.quiet ≡ 0 }
+        ensures resumes { result.resumes ≡
+            (if nat_lt 0 next && nat_lt next count then Some next else None) }
     {
         Order {
             count,
@@ -97,16 +100,23 @@ impl Order {
 
     /// Whether the run ends: all processes are idle, or its time is over. It ends by time only after
     /// a time slice of another process than the first, if there is one.
-    pub fn is_over(&self) -> bool {
+    pub fn is_over(&self) -> bool
+        ensures { result ≡ (self.entry.now.is_over
+            || nat_le self.entry.now.count self.entry.now.quiet) }
+    {
         self.is_over || self.is_idle()
     }
 
     /// The process had its turn.
     pub fn note<W: Stopwatch>(&mut self, activity: Activity, watch: &mut W)
         ensures count { self.new.count ≡ self.old.count }
+        ensures waits { activity ≡ Activity.Waits → self.new ≡ self.old }
         ensures acts { activity ≡ Activity.Acts → self.new.quiet ≡ 0 }
+        ensures restarts { activity ≡ Activity.Acts → self.new.yields ≡ 0 }
         ensures quiet { self.new.quiet ≤ self.old.quiet + 1 }
-        ensures again { activity ≡ Activity.Yields → self.old.yields ≡ 0 → (self.new.quiet ≡ self.old.quiet)
+        ensures second_yield { self.new.quiet ≡ self.old.quiet + 1 →
+            (activity ≡ Activity.Yields) × (1 ≤ self.old.yields) }
+        ensures first_yield { activity ≡ Activity.Yields → self.old.yields ≡ 0 → (self.new.quiet ≡ self.old.quiet)
             × (self.new.place ≡ self.old.place) }
     {
         match activity {
@@ -143,6 +153,7 @@ impl Order {
     fn read<W: Stopwatch>(&mut self, watch: &mut W)
         ensures count { self.new.count ≡ self.old.count }
         ensures quiet { self.new.quiet ≡ self.old.quiet }
+        ensures yields { self.old.yields ≡ 0 → self.new.yields ≡ 0 }
     {
         self.untimed = 0;
         self.now = watch.micros();
@@ -161,6 +172,7 @@ impl Order {
         ensures first { self.old.resumes ≡ None → self.old.count ≤ self.old.place + 1
             → self.new.place ≡ 0 }
         ensures resumes { self.new.resumes ≡ None }
+        ensures yields { self.new.yields ≡ 0 }
     {
         let is_last = 0 < self.place || self.count <= 1;
         self.is_over = is_last && RUN_MICROS <= self.now;

@@ -4,6 +4,7 @@ ghost use Rattle.std.specs.Prelude.{false, IfSome, IsNone, is_some, set, OnErr, 
 ghost use Rattle.std.specs.Prelude.{if◌then◌else◌, min, ◌^◌, ◌-◌};
 ghost use Rattle.std.specs.Io.KnownBytes.{Appends};
 ghost use Rattle.iol_core.specs.declared.descriptors.How.TheVariants as how;
+ghost use Rattle.iol_proc.specs.World.{copied};
 ghost use Rattle.iol_sock.specs.Gathers.{IsCalled};
 ghost use Rattle.iol_reactor.specs.Connections.{is_earlier, link_at};
 ghost use Rattle.iol_reactor.specs.Visits.{HasVisited};
@@ -59,7 +60,7 @@ pub struct Worlds<B: Backing, P: Process, V: Service<B, P>> {
     current: Host<B, P, V>,
     is_worn: bool,
 
-    // The world before, while it has a connection with a client.
+    // The world before, while a client has a connection of an earlier world.
     retiring: Option<Host<B, P, V>>,
 }
 
@@ -89,6 +90,7 @@ impl<B: Backing + Drop, P: Process, V: Service<B, P>> Worlds<B, P, V> {
             (λ h. h.world) self.old.retiring)
             (serving self.new.links.generation self.new.current.world
             (λ h. h.world) self.new.retiring) }
+        ensures serves { is_some self.new.retiring ≡ is_some self.old.retiring }
     {
         self.links.add_place()
     }
@@ -134,7 +136,8 @@ impl<B: Backing + Drop, P: Process, V: Service<B, P>> Worlds<B, P, V> {
     }
 
     /// New requests go to this world from now on, and those in progress finish in the present one.
-    /// No world is retiring. After 2^64 - 1 renewals the new world is dropped, and nothing changes.
+    /// A world that is still retiring is dropped. After 2^64 - 1 renewals the new world is dropped,
+    /// and nothing changes.
     pub fn renew(&mut self, world: World<B, P>)
         requires { V.starts world }
         ensures takes { self.old.links.generation < 18446744073709551615 →
@@ -162,7 +165,7 @@ impl<B: Backing + Drop, P: Process, V: Service<B, P>> Worlds<B, P, V> {
         self.retire();
     }
 
-    // Drops the world before, if no connection of it has a client.
+    // Drops the world before, if no client has a connection of an earlier world.
     fn retire(&mut self)
         ensures current { self.new.current ≡ self.old.current }
         ensures retiring { self.new.retiring ≡
@@ -197,6 +200,7 @@ impl<B: Backing + Drop, P: Process, V: Service<B, P>> Worlds<B, P, V> {
             (λ h. h.world) self.old.retiring)
             (serving self.new.links.generation self.new.current.world
             (λ h. h.world) self.new.retiring) }
+        ensures serves { is_some self.new.retiring ≡ is_some self.old.retiring }
     {
         let Some(conn) = self.current.connect() else {
             return false;
@@ -216,6 +220,10 @@ impl<B: Backing + Drop, P: Process, V: Service<B, P>> Worlds<B, P, V> {
             (λ h. h.world) self.old.retiring)
             (serving self.new.links.generation self.new.current.world
             (λ h. h.world) self.new.retiring) }
+        ensures ends { IfSome (link_at self.old.links.table.items slot)
+            (λ l. (l.generation == self.old.links.generation) ≡ false →
+            count_by (is_earlier self.new.links.generation) self.new.links.table.items ≡ 0 →
+            self.new.retiring ≡ None) }
     {
         let Some(link) = self.links.take(slot) else {
             return;
@@ -279,6 +287,7 @@ impl<B: Backing + Drop, P: Process, V: Service<B, P>> Worlds<B, P, V> {
             (λ h. h.world) self.old.retiring)
             (serving self.new.links.generation self.new.current.world
             (λ h. h.world) self.new.retiring) }
+        ensures serves { is_some self.new.retiring ≡ is_some self.old.retiring }
     {
         let Some(link) = self.links.get(slot) else {
             return;
@@ -308,6 +317,7 @@ impl<B: Backing + Drop, P: Process, V: Service<B, P>> Worlds<B, P, V> {
             (λ h. h.world) self.old.retiring)
             (serving self.new.links.generation self.new.current.world
             (λ h. h.world) self.new.retiring) }
+        ensures serves { is_some self.new.retiring ≡ is_some self.old.retiring }
     {
         let Some(link) = self.links.get(slot) else {
             return;
@@ -337,6 +347,10 @@ impl<B: Backing + Drop, P: Process, V: Service<B, P>> Worlds<B, P, V> {
             (λ h. h.world) self.old.retiring)
             (serving self.new.links.generation self.new.current.world
             (λ h. h.world) self.new.retiring) }
+        ensures serves { is_some self.new.retiring ≡ is_some self.old.retiring }
+        ensures current { copied self.new.current.world ≡ copied self.old.current.world }
+        ensures retiring { IfSome self.old.retiring (λ h. IfSome self.new.retiring
+            (λ k. copied k.world ≡ copied h.world)) }
     {
         let Some(link) = self.links.get(slot) else {
             return false;
@@ -365,6 +379,7 @@ impl<B: Backing + Drop, P: Process, V: Service<B, P>> Worlds<B, P, V> {
             (λ h. h.world) self.old.retiring)
             (serving self.new.links.generation self.new.current.world
             (λ h. h.world) self.new.retiring) }
+        ensures serves { is_some self.new.retiring ≡ is_some self.old.retiring }
     {
         let Some(link) = self.links.get(slot) else {
             return bytes;
@@ -397,6 +412,7 @@ impl<B: Backing + Drop, P: Process, V: Service<B, P>> Worlds<B, P, V> {
             IsOver (link_at self.old.links.table.items slot)
             (serving self.new.links.generation self.new.current.world
             (λ h. h.world) self.new.retiring) }
+        ensures serves { is_some self.new.retiring ≡ is_some self.old.retiring }
     {
         let Some(link) = self.links.get(slot) else {
             return Collected::Gone;
@@ -431,6 +447,7 @@ impl<B: Backing + Drop, P: Process, V: Service<B, P>> Worlds<B, P, V> {
             IsOver (link_at self.old.links.table.items slot)
             (serving self.new.links.generation self.new.current.world
             (λ h. h.world) self.new.retiring) }
+        ensures serves { is_some self.new.retiring ≡ is_some self.old.retiring }
     {
         let Some(link) = self.links.get(slot) else {
             return Offered::Gone;
