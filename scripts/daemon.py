@@ -33,15 +33,15 @@ def write_site(root, files):
 
 
 class Daemon:
-    """A server of a folder, on a free port of 127.0.0.1."""
+    """A server of a folder, on a free port of 127.0.0.1, run by a user of the system."""
 
-    def __init__(self, root, *words, descriptors=None):
+    def __init__(self, root, *words, descriptors=None, program=PROGRAM, user=None):
         limit = None
         if descriptors:
             def limit():
                 resource.setrlimit(resource.RLIMIT_NOFILE, (descriptors, descriptors))
-        given = [PROGRAM, "--listen", "127.0.0.1:0", *words, root]
-        self.process = subprocess.Popen(given, stdout=subprocess.PIPE, stderr=subprocess.PIPE, preexec_fn=limit)
+        given = [program, "--listen", "127.0.0.1:0", *words, root]
+        self.process = subprocess.Popen(given, stdout=subprocess.PIPE, stderr=subprocess.PIPE, preexec_fn=limit, user=user)
         self.announced = self.process.stdout.readline()
         self.port = int(self.announced.rstrip(b"/\n").rpartition(b":")[2]) if self.announced else None
 

@@ -69,6 +69,8 @@ impl Service<MemoryBacking, Server> for Files {
         let _ = exchange;
     }
 
+    fn flush(&mut self) {}
+
     fn renew(&mut self, is_worn: bool) -> Option<World<MemoryBacking, Server>> {
         let _ = is_worn;
         None

@@ -32,6 +32,8 @@ impl<R: Files> Service<FolderBacking<R>, Actor> for FolderService {
         let _ = exchange;
     }
 
+    fn flush(&mut self) {}
+
     fn renew(&mut self, is_worn: bool) -> Option<World<FolderBacking<R>, Actor>> {
         let _ = is_worn;
         None

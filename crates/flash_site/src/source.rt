@@ -31,7 +31,8 @@ pub struct Summary {
     pub files: usize,
     pub bytes: u64,
 
-    /// The number of entries of the folder that are not served.
+    /// The number of entries of the folder that are not served. The program may not read some of
+    /// them.
     pub skipped: u64,
 
     /// Whether its bytes were read into memory, so that its store is honest.
@@ -58,8 +59,8 @@ pub struct Source<R: Files> {
     // folder.
     preload: Option<u64>,
 
-    // The files of the last read, none if the folder changed during it, and whether one of them
-    // changed so shortly before that it must be read again.
+    // The files that the last read found, none if the folder changed during it, and whether a file
+    // that it read changed so shortly before that it must be read again.
     index: Option<Index>,
     is_young: bool,
 }
@@ -89,7 +90,7 @@ impl<R: Files + Clock + AllocGlobal + Clone + Drop> Source<R> {
             Some(loaded) => Ok(loaded),
             None => {
                 let index = Index::of(&self.rt, self.root.as_str())?;
-                let store = self.on_disk(index)?;
+                let store = self.on_disk(index.readable(&self.rt)?)?;
                 self.host(store, None)
             }
         }
@@ -133,11 +134,12 @@ impl<R: Files + Clock + AllocGlobal + Clone + Drop> Source<R> {
     fn load_once(&mut self) -> io::Result<Option<Loaded<R>>>
         ensures { StaysUnlessRead result self.old self.new }
     {
-        let index = Index::of(&self.rt, self.root.as_str())?;
+        let found = Index::of(&self.rt, self.root.as_str())?;
+        let index = found.readable(&self.rt)?;
         if self.fits(&index) {
-            self.load_memory(index)
+            self.load_memory(&found, index)
         } else {
-            self.load_folder(index)
+            self.load_folder(&found, index)
         }
     }
 
@@ -149,8 +151,9 @@ impl<R: Files + Clock + AllocGlobal + Clone + Drop> Source<R> {
         }
     }
 
-    // Reads the files into memory. None: the folder changed while it was read.
-    fn load_memory(&mut self, index: Index) -> io::Result<Option<Loaded<R>>>
+    // Reads the readable files of those that were found into memory. None: the folder changed while
+    // it was read.
+    fn load_memory(&mut self, found: &Index, index: Index) -> io::Result<Option<Loaded<R>>>
         ensures { StaysUnlessRead result self.old self.new }
     {
         let contents = match read_all(&self.rt, &index) {
@@ -159,20 +162,20 @@ impl<R: Files + Clock + AllocGlobal + Clone + Drop> Source<R> {
             Err(_) => return Ok(None),
         };
         let after = Index::of(&self.rt, self.root.as_str())?;
-        if !index.is_same(&after) {
+        if !found.is_same(&after) {
             return Ok(None);
         }
         let store = TreeBacking::in_memory(self.rt.clone()?, self.rt.alloc(), index, contents)?;
         Ok(Some(self.host(store, Some(after))?))
     }
 
-    // Serves the files from the folder. None: the folder changed while it was read, or an entry
-    // could not be examined.
-    fn load_folder(&mut self, index: Index) -> io::Result<Option<Loaded<R>>>
+    // Serves the readable files of those that were found from the folder. None: the folder changed
+    // while it was read, or an entry could not be examined.
+    fn load_folder(&mut self, found: &Index, index: Index) -> io::Result<Option<Loaded<R>>>
         ensures { StaysUnlessRead result self.old self.new }
     {
         let after = Index::of(&self.rt, self.root.as_str())?;
-        if !index.is_same(&after) {
+        if !found.is_same(&after) {
             return Ok(None);
         }
         let store = self.on_disk(index)?;
@@ -184,8 +187,8 @@ impl<R: Files + Clock + AllocGlobal + Clone + Drop> Source<R> {
         Ok(TreeBacking::on_disk(self.rt.clone()?, self.rt.alloc(), index))
     }
 
-    // Creates the world of a store. The index has the same files as the store; none: the folder
-    // changes, so the next `renew` reads it again.
+    // Creates the world of a store. The index has the files that were found in the folder; none: the
+    // folder changes, so the next `renew` reads it again.
     fn host(&mut self, store: TreeBacking<R>, index: Option<Index>) -> io::Result<Loaded<R>>
         ensures { OnErr result (self.new ≡ self.old) }
     {

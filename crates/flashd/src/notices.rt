@@ -40,6 +40,6 @@ fn tell_folder<R: Eprint>(rt: &R, root: &str) -> io::Result<()> {
 
 fn tell_skipped<R: Eprint>(rt: &R, root: &str, skipped: u64) -> io::Result<()> {
     eprintln!(rt;
-        "flashd: {skipped} entries of {root} are not served: links, long files or names, or more than 1024 files"
+        "flashd: {skipped} entries of {root} are not served: links, long files or names, unreadable ones, or more than 1024 files"
     )
 }

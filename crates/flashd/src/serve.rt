@@ -9,6 +9,7 @@ use flash_lite::actor::Actor;
 use flash_log::log::AccessLog;
 use flash_site::source::{Loaded, Source};
 use iol_reactor::reactor::Reactor;
+use iol_reactor::service::Service;
 use iol_tree::backing::TreeBacking;
 use mio::net::TcpListener;
 use std::fs::{File, OpenOptions};

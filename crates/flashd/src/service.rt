@@ -73,13 +73,6 @@ where
         })
     }
 
-    /// Writes the rest of the log.
-    pub fn flush(&mut self) {
-        if let Some(log) = &mut self.log {
-            log.flush();
-        }
-    }
-
     // Adds a line to the log.
     fn log(&mut self, exchange: &Exchange<'_>) -> io::Result<()> {
         let Some(log) = &mut self.log else {
@@ -195,8 +188,14 @@ where
         let _ = self.log(exchange);
     }
 
+    // Writes the rest of the log.
+    fn flush(&mut self) {
+        if let Some(log) = &mut self.log {
+            log.flush();
+        }
+    }
+
     fn renew(&mut self, is_worn: bool) -> Option<World<TreeBacking<R>, Actor>> {
-        self.flush();
         match self.look(is_worn) {
             Ok(world) => world,
             Err(_) => None,

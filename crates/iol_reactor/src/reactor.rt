@@ -286,7 +286,8 @@ where
         }
     }
 
-    // Asks the service for a new world, if the time for that has come.
+    // If the time for that has come, lets the service write its records, and asks it for a new world
+    // unless one is retiring.
     fn renew(&mut self, service: &mut V)
         ensures { self.new.acceptor ≡ self.old.acceptor }
     {
@@ -295,6 +296,7 @@ where
             return;
         }
         self.renew_at = now.saturating_add(RENEW_MILLIS);
+        service.flush();
         let worlds = self.engine.worlds();
         if worlds.is_retiring() {
             return;

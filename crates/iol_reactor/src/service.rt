@@ -87,6 +87,9 @@ pub trait Service<B: Backing, P: Process> {
     /// Records an exchange that ended.
     fn record(&mut self, exchange: &Exchange<'_>);
 
+    /// Writes the records that are not written yet. The event loop calls it about once a second.
+    fn flush(&mut self);
+
     /// The world for new requests, if there is a new one. The connection numbers of the present one
     /// may be nearly used up.
     fn renew(&mut self, is_worn: bool) -> Option<World<B, P>>

@@ -56,6 +56,22 @@ impl Index {
         Ok(index)
     }
 
+    /// The files of this index that the program may read, with their stamps. The others count as entries that are not in the index.
+    pub fn readable<R: Files + AllocGlobal>(&self, rt: &R) -> Result<Index, AllocError> {
+        let alloc = rt.alloc();
+        let mut index = Index::new(alloc, String::from_str(alloc, self.root.as_str())?);
+        index.skipped = self.skipped;
+        for place in 0..self.count() {
+            let name = self.name(place);
+            if index.takes(name) && !self.is_denied(rt, place) {
+                index.add(String::from_str(alloc, name)?, self.stamp(place))?;
+            } else {
+                index.skip();
+            }
+        }
+        Ok(index)
+    }
+
     fn new(alloc: Global, root: String) -> Index
         ensures { result.names ≡ [] }
     {
@@ -77,7 +93,8 @@ impl Index {
     }
 
     /// The number of entries below the folder that are not in the index: links, devices and the like, files that are too long, names
-    /// that are too long or not UTF-8, folders that could not be read, and files past the first 1,024.
+    /// that are too long or not UTF-8, folders that could not be read, files past the first 1,024, and, in a [`readable`](Index::readable)
+    /// index, files that the program may not read.
     pub fn skipped(&self) -> u64 {
         self.skipped
     }
@@ -131,8 +148,23 @@ impl Index {
                 return self.add(name, stamp);
             }
         }
-        self.skipped = self.skipped.saturating_add(1);
+        self.skip();
         Ok(())
+    }
+
+    // Counts an entry that is not in the index.
+    fn skip(&mut self) {
+        self.skipped = self.skipped.saturating_add(1);
+    }
+
+    // Whether the program may not read a file.
+    fn is_denied<R: Files + AllocGlobal>(&self, rt: &R, place: usize) -> bool
+        requires { place < length self.now.names }
+    {
+        match self.open(rt, rt.alloc(), place) {
+            Ok(_) => false,
+            Err(e) => e.kind() == ErrorKind::PermissionDenied,
+        }
     }
 
     // Whether a file of this name may be added after the others.

@@ -71,6 +71,8 @@ impl Service<MemoryBacking, Echo> for Lines {
         }
     }
 
+    fn flush(&mut self) {}
+
     fn renew(&mut self, is_worn: bool) -> Option<World<MemoryBacking, Echo>> {
         let _ = is_worn;
         None
