@@ -6,7 +6,7 @@ import tree
 
 FUNCTION = re.compile(r"^(?P<indent> *)(?:pub(?:\(crate\))? )?(?:const )?fn (?P<name>\w+)")
 BLOCK = re.compile(
-    r"^impl(?:<(?P<given>[^{]*?)>)? (?:(?P<trait>\w+)(?:<[^{]*>)? for )?(?P<type>\w+)(?:<(?P<of>[^{]*)>)?"
+    r"^impl(?:<(?P<given>[^{]*?)>)? (?:(?:\w+::)*(?P<trait>\w+)(?:<(?P<by>[^{]*)>)? for )?(?P<type>\w+)(?:<(?P<of>[^{]*)>)?"
 )
 ENDS = re.compile(r"^[)\w].*\{$")  # the last line of a function's head, if the head has several lines
 
@@ -24,10 +24,12 @@ def head_ends(lines, at, indent):
 
 
 def owner_of(block):
-    """Returns the type and the trait of an impl block as the prover writes them: the type with its arguments unless all are parameters."""
+    """Returns the type and the trait of an impl block as the prover writes them: the type of a block without a trait with its arguments
+    unless all are parameters, the trait with its arguments, but not with theirs."""
     given = re.findall(r"(?:^|, )(?:const )?(\w+)", re.sub(r"<[^<>]*>", "", block["given"] or ""))
     of = [] if block["trait"] else re.findall(r"(?<!')\b\w+", block["of"] or "")
-    return "+".join([block["type"], *(of if set(of) - set(given) else [])]) + f"{block['trait'] or ''}::"
+    by = re.findall(r"(?<!')\b\w+", re.sub(r"<[^<>]*>", "", block["by"] or ""))
+    return "+".join([block["type"], *(of if set(of) - set(given) else [])]) + "".join([block["trait"] or "", *by, "::"])
 
 
 def heads(text):
