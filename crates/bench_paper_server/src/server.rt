@@ -6,7 +6,7 @@
 //! nine calls for a request whose response fits the connection's queue.
 ghost use Rattle.std.specs.Prelude.{⊤, IfSome};
 ghost use Rattle.iol_proc.specs.Prelude.{IsCopyFree};
-ghost use Rattle.iol_proc.specs.Quiet.{IsCopyFreeCall};
+ghost use Rattle.iol_proc.specs.CopyFree.{IsCopyFreeCall};
 
 use crate::passing::Passing;
 use crate::request::Request;

@@ -4,7 +4,7 @@ use Rattle.std.proofs.Common.{ap, subst}
 use Rattle.std.proofs.Math.Logic.{∥∥₁_elim, ∥∥₁_prop}
 use Rattle.std.specs.List.{AllByRecursion}
 use Rattle.std.specs.Option.{IfSome}
-use Rattle.iol_proc.specs.World.{Stage}
+use Rattle.iol_proc.specs.World.{WorldState}
 use Rattle.iol_system.specs.Machine.{SystemState}
 use Rattle.iol_reactor.specs.Clients.{AreWhole, Holds, IsClosed, IsDone, IsLeft, Request, Visit, WereLeft}
 use Rattle.iol_reactor.specs.Served.{HasHistory, HasKnownHistory, IsLast, IsServed, IsServedWhole}
@@ -30,15 +30,15 @@ some_same : (known : Option (List ℕ)) (a b : List ℕ) → known ≡ Some a �
 unfolding value_of
 some_same known a b first second = ap (λ o. value_of a o) (sym first ∙ second)
 
-module _ (starts : Stage SystemState (Actor Worker) → Type 0) (frames : List ℕ → Frame
+module _ (starts : WorldState SystemState (Actor Worker) → Type 0) (frames : List ℕ → Frame
     → Type 0) (s : ServesSites starts frames) where
-  visited_sites : (c : ℕ) (came sent : List ℕ) (gone : Bool) (w : Stage SystemState (Actor Worker))
+  visited_sites : (c : ℕ) (came sent : List ℕ) (gone : Bool) (w : WorldState SystemState (Actor Worker))
       → HasVisited (actor_turns in_rounds worker_turns) starts net_pool c came sent gone w
       → HasVisited (actor_turns in_rounds worker_turns) BeginsSite net_pool c came sent gone w
   visited_sites c came sent gone w h =
       record { begun = h.begun; started = s.begins h.begun h.started; honest = h.honest; visits = h.visits }
 
-  visited_honest : (c : ℕ) (came sent : List ℕ) (gone : Bool) (w : Stage SystemState (Actor Worker))
+  visited_honest : (c : ℕ) (came sent : List ℕ) (gone : Bool) (w : WorldState SystemState (Actor Worker))
       → HasVisited (actor_turns in_rounds worker_turns) starts net_pool c came sent gone w
       → w.machine.disk.honest ≡ true
   visited_honest c came sent gone w h = h.honest.same ∙ s.honest h.begun h.started
@@ -135,7 +135,7 @@ module _ (starts : Stage SystemState (Actor Worker) → Type 0) (frames : List �
     }
 
 client_answered : ClientsAreAnswered
-    → {S : Type 0} (supplied accepted : S → Option (List ℕ)) (starts : Stage SystemState (Actor Worker)
+    → {S : Type 0} (supplied accepted : S → Option (List ℕ)) (starts : WorldState SystemState (Actor Worker)
     → Type 0) (frames : List ℕ → Frame → Type 0) → ServesSites starts frames → (pool : ℕ) → pool ≡ net_pool
     → (c : Client S)
     → HasKnownHistory (actor_turns in_rounds worker_turns) starts frames pool supplied accepted c
@@ -147,7 +147,7 @@ client_answered law supplied accepted starts frames sites pool net c history = �
 
 -- the same for a client that was found
 pub found_answered : ClientsAreAnswered
-    → {R S : Type 0} (supplied accepted : S → Option (List ℕ)) (starts : Stage SystemState (Actor Worker)
+    → {R S : Type 0} (supplied accepted : S → Option (List ℕ)) (starts : WorldState SystemState (Actor Worker)
     → Type 0) (frames : List ℕ → Frame → Type 0) → ServesSites starts frames → (pool : ℕ) → pool ≡ net_pool
     → (now : R → Client S) (found : Option R)
     → IfSome found (λ k. HasKnownHistory (actor_turns in_rounds worker_turns) starts frames pool supplied accepted

@@ -4,7 +4,7 @@ use Rattle.iol_core.specs.State.{State}
 use Rattle.iol_core.specs.declared.events.Event.TheVariants as event
 use Rattle.iol_core.specs.declared.events.Reply.{Reply}
 use Rattle.iol_system.specs.Prelude.{slots_of}
-use Rattle.iol_proc.specs.World.{Stage, copied, copying, WorldRun}
+use Rattle.iol_proc.specs.World.{WorldState, copied, copying, WorldRun}
 use Rattle.iol_proc.specs.declared.choice.Choice.{Choice}
 use Rattle.iol_proc.specs.declared.choice.Choice.TheVariants as choice
 use Rattle.iol_reactor.specs.Serving.{AreServing, IsServing}
@@ -28,7 +28,7 @@ use Rattle.flash_answers.specs.Sites.{IsAnsweredBySite, SitesAnswer, site_of}
 
 -- ---- the choices of a serving world are site-preserving
 
-site_preserving_one : (pool : ℕ) (x : Choice) (w after : Stage State (Actor Worker)) → IsServing pool x
+site_preserving_one : (pool : ℕ) (x : Choice) (w after : WorldState State (Actor Worker)) → IsServing pool x
     → IsSitePreserving w x after
 site_preserving_one pool (choice.Turn by) w after on = tt
 site_preserving_one pool (choice.Outside (event.ConnNew p)) w after on = tt
@@ -38,7 +38,7 @@ site_preserving_one pool (choice.Outside (event.Transmit c max)) w after on = tt
 site_preserving_one pool (choice.Outside (event.Call d k)) w after on = absurd on
 site_preserving_one pool (choice.Outside e) w after on = absurd on
 
-all_site_preserving : (pool : ℕ) (xs : List Choice) (rs : List Reply) (w after : Stage State (Actor Worker))
+all_site_preserving : (pool : ℕ) (xs : List Choice) (rs : List Reply) (w after : WorldState State (Actor Worker))
     → (run : WorldRun copying (actor_turns in_rounds worker_turns) w xs rs after) → AreServing pool xs
     → AreSitePreserving (actor_turns in_rounds worker_turns) w xs rs after run
 all_site_preserving pool [] rs w after run on = tt
@@ -50,7 +50,7 @@ all_site_preserving pool (x ∷ xs) (r ∷ rs) w after run on =
 
 module _ (keeps : (s : Site) → RunKeepsConsistency in_rounds (worker_set_of s)) (hosted : HostedIsRight)
     (fair : AnyIsFair) (visits : (s : Site) → VisitsAreAnswered (worker_set_of s))
-    (c : ℕ) (came sent : List ℕ) (gone : Bool) (w : Stage SystemState (Actor Worker))
+    (c : ℕ) (came sent : List ℕ) (gone : Bool) (w : WorldState SystemState (Actor Worker))
     (visited : HasVisited (actor_turns in_rounds worker_turns) BeginsSite net_pool c came sent gone w)
     (is : IsSiteWorld visited.begun)
     (honest : visited.begun.machine.disk.honest ≡ true) where

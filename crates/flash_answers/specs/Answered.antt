@@ -1,6 +1,6 @@
 -- The answers to the clients of an event loop whose worlds are those of sites.
 use Rattle.std.specs.Prelude.{◌≡◌, ℕ, List, Option, Some, IsTrue}
-use Rattle.iol_proc.specs.World.{Stage}
+use Rattle.iol_proc.specs.World.{WorldState}
 use Rattle.iol_system.specs.Machine.{SystemState}
 use Rattle.iol_reactor.specs.Served.{AreKnown}
 use Rattle.iol_reactor.specs.declared.client.Client.{Client}
@@ -14,10 +14,10 @@ use Rattle.flash_answers.specs.Clients.{IsAnswered, IsBegun}
 
 -- The worlds that a service begins with begin as those of sites, over honest stores, and its frames are those of
 -- requests of HTTP.
-pub record ServesSites (starts : Stage SystemState (Actor Worker) → Type 0) (frames : List ℕ → Frame → Type 0) :
+pub record ServesSites (starts : WorldState SystemState (Actor Worker) → Type 0) (frames : List ℕ → Frame → Type 0) :
     Type 0 where
-  pub begins : (world : Stage SystemState (Actor Worker)) → starts world → BeginsSite world
-  pub honest : (world : Stage SystemState (Actor Worker)) → starts world → IsTrue world.machine.disk.honest
+  pub begins : (world : WorldState SystemState (Actor Worker)) → starts world → BeginsSite world
+  pub honest : (world : WorldState SystemState (Actor Worker)) → starts world → IsTrue world.machine.disk.honest
   pub framed : (bytes : List ℕ) (frame : Frame) → frames bytes frame → Framed bytes frame
 
 -- The bytes that a client's socket accepted are a prefix of an answer to those that it supplied, by some sites in turn.

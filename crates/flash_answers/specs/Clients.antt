@@ -1,7 +1,7 @@
 -- The answers to a client of the event loop, whose connections were in worlds of sites.
 use Rattle.std.specs.Prelude.{◌≡◌, ℕ, Bool, List, [], IsTrue}
 use Rattle.std.specs.List.{AllByRecursion}
-use Rattle.iol_proc.specs.World.{Stage}
+use Rattle.iol_proc.specs.World.{WorldState}
 use Rattle.iol_system.specs.Machine.{SystemState}
 use Rattle.iol_reactor.specs.Clients.{Holds, IsClosed, Visit, WereLeft}
 use Rattle.iol_reactor.specs.Visits.{HasVisited}
@@ -19,7 +19,7 @@ use Rattle.flash_answers.specs.Sites.{site_of}
 
 -- the contents of the site of some world
 pub record IsOfSite (site_contents : SiteContents) : Type 0 where
-  pub world : Stage SystemState (Actor Worker)
+  pub world : WorldState SystemState (Actor Worker)
   pub is : IsSiteWorld world
   pub same : site_contents ≡ site_of world is
 

@@ -21,7 +21,7 @@ use Rattle.flash_cgi.specs.Expected.{Made, text_of, HasJobQueue, HasRest, IsExpe
 use Rattle.flash_cgi.specs.Expected.{ScriptsPutOut}
 use Rattle.flash_cgi.specs.Feeds.{Needs}
 use Rattle.flash_cgi.specs.Free.{HasNoJob}
-use Rattle.flash_cgi.specs.Frame.{LeavesAllBut, WorkersAreQuiet}
+use Rattle.flash_cgi.specs.Frame.{LeavesAllBut, WorkersAreConfined}
 use Rattle.flash_cgi.specs.Outcomes.{AreFiles, outcomes_in}
 use Rattle.flash_cgi.specs.Output.{Outcome, Failed, output}
 use Rattle.flash_cgi.specs.JobStart.{HasJob}
@@ -107,7 +107,7 @@ nothing_left : (m : State) (j p : ℕ) (process_slot : ProcessSlot Worker) (unse
 nothing_left m j p process_slot unseen (inl h) empty = tt
 nothing_left m j p process_slot unseen (inr h) empty = empty
 
-module _ (own : CallsServeTheirDomain) (quiet : WorkersAreQuiet) (m n : State) (j p : ℕ)
+module _ (own : CallsServeTheirDomain) (confined : WorkersAreConfined) (m n : State) (j p : ℕ)
     (process_slot next : ProcessSlot Worker) (yields : Bool) (r : Reply)
     (order : IsOrderly m) (did : ProcessSlotTurn copying worker_turns m process_slot yields r n next) where
   -- the worker stays in its domain
@@ -144,7 +144,7 @@ module _ (own : CallsServeTheirDomain) (quiet : WorkersAreQuiet) (m n : State) (
   awaited job_queue unseen h = by (free_turn m n process_slot next yields r h.has.live h.free did)
     where
       both : LeavesAllBut m process_slot.by j n × (descriptor n process_slot.by 0 ≡ Some (on.ReadEnd j))
-      both = quiet.free m n j process_slot next yields r h.has.live h.free job_queue.jobs did
+      both = confined.free m n j process_slot next yields r h.has.live h.free job_queue.jobs did
 
       by : FreeTurn m n process_slot.by next r → Leaves job_queue
       by (inl same) = record {
@@ -169,9 +169,9 @@ module _ (own : CallsServeTheirDomain) (quiet : WorkersAreQuiet) (m n : State) (
       → List ℕ) (runs : RunsJob m p process_slot unseen) → HasRest m j p process_slot unseen runs → Leaves job_queue
   leaves job_queue unseen (inl h) rest = awaited job_queue unseen h
   leaves job_queue unseen (inr (inl h)) rest =
-      untouched job_queue h.begins.feeds.live rest (quiet.begins m n p process_slot next yields r unseen h did)
+      untouched job_queue h.begins.feeds.live rest (confined.begins m n p process_slot next yields r unseen h did)
   leaves job_queue unseen (inr (inr i)) rest =
-      untouched job_queue i.feeds.live rest (quiet.runs m n p process_slot next yields r unseen i did)
+      untouched job_queue i.feeds.live rest (confined.runs m n p process_slot next yields r unseen i did)
 
   job_queue_after : (job_queue : HasJobQueue m process_slot.by j p) → Leaves job_queue → HasJobQueue n next.by j p
   job_queue_after job_queue l =
@@ -213,16 +213,16 @@ writing m p process_slot unseen (inr (inr i)) = (process_slot.process.job.fd, i.
 closed_now : (m n : State) (p : ℕ) (r : Reply) → r ≡ reply.Done → ClosesWriteEnd m p r n → (pipe_at n p).writing ≡ false
 closed_now m n p r done closes = (subst (λ (l : Reply). ClosesWriteEnd m p l n) done closes).0
 
-turns : TurnsFeed → CallsServeTheirDomain → WorkersAreQuiet
+turns : TurnsFeed → CallsServeTheirDomain → WorkersAreConfined
     → (m n : State) (j p : ℕ) (process_slot next : ProcessSlot Worker) (yields : Bool) (r : Reply) (made : Made)
     (text : List ℕ) → IsOrderly m → ArePlaced m → AreFiles m
     → IsExpected m j p process_slot made text → ProcessSlotTurn copying worker_turns m process_slot yields r n next
     → Goes m n j p next made text r
-turns feeds own quiet m n j p process_slot next yields r made text order placed good expected did =
+turns feeds own confined m n j p process_slot next yields r made text order placed good expected did =
     by (feeds m n p process_slot next yields r expected.unseen order expected.runs did)
   where
-    left : Leaves own quiet m n j p process_slot next yields r order did expected.job_queue
-    left = leaves own quiet m n j p process_slot next yields r order did expected.job_queue expected.unseen
+    left : Leaves own confined m n j p process_slot next yields r order did expected.job_queue
+    left = leaves own confined m n j p process_slot next yields r order did expected.job_queue expected.unseen
         expected.runs expected.rest
 
     open_yet : (pipe_at m p).writing ≡ true
@@ -263,8 +263,8 @@ turns feeds own quiet m n j p process_slot next yields r made text order placed 
           lines
           ∙ (ap (λ (l : List Outcome). made.before ++ output made.query made.lines l)
           (append_assoc expected.resolved g.resolved os) ∙ expected.all (g.resolved ++ os))));
-      job_queue = job_queue_after own quiet m n j p process_slot next yields r order did expected.job_queue left;
-      rest = rest_after own quiet m n j p process_slot next yields r order did expected.job_queue left
+      job_queue = job_queue_after own confined m n j p process_slot next yields r order did expected.job_queue left;
+      rest = rest_after own confined m n j p process_slot next yields r order did expected.job_queue left
           (λ os. expected.unseen (g.resolved ++ os)) g.runs;
     }
 
@@ -322,7 +322,7 @@ turns feeds own quiet m n j p process_slot next yields r made text order placed 
       done = over.ends.done;
       closes = over.ends.closes;
       free = over.free;
-      none = none_after own quiet m n j p process_slot next yields r order did expected.job_queue left open_yet
+      none = none_after own confined m n j p process_slot next yields r order did expected.job_queue left open_yet
           (closed_now m n p r over.ends.done over.ends.closes);
     })))
     by (inr (inr gone)) = same (inr (inr gone))
@@ -397,9 +397,9 @@ others law m n j p process_slot e r made text order placed step other files same
     receives = law.gone m n p process_slot expected.unseen left (left_jobs m n j p process_slot expected.job_queue same)
         expected.runs goes
 
-pub scripts_put_out : TurnsFeed → OthersReceive → CallsServeTheirDomain → WorkersAreQuiet → ScriptsPutOut
-scripts_put_out feeds law own quiet = record {
+pub scripts_put_out : TurnsFeed → OthersReceive → CallsServeTheirDomain → WorkersAreConfined → ScriptsPutOut
+scripts_put_out feeds law own confined = record {
   begins = begins;
-  turns = turns feeds own quiet;
+  turns = turns feeds own confined;
   others = others law;
 }

@@ -28,7 +28,7 @@ use Rattle.iol_proc.specs.declared.process_slot.ProcessSlot.{ProcessSlot}
 use Rattle.flash_cgi.specs.Collecting.{Collected}
 use Rattle.flash_cgi.specs.Feeds.{Needs}
 use Rattle.flash_cgi.specs.Job.{Task}
-use Rattle.flash_cgi.specs.Frame.{LeavesAllBut, WorkersAreQuiet}
+use Rattle.flash_cgi.specs.Frame.{LeavesAllBut, WorkersAreConfined}
 use Rattle.flash_cgi.specs.Output.{Outcome}
 use Rattle.flash_cgi.specs.Turns.{IsFree, HasRead, IsRunning, filed_step, is_given, or_again}
 use Rattle.flash_cgi.specs.Standstill.{is_over}
@@ -365,15 +365,15 @@ run_is_not_given m d w l readable s asked h =
 
 module _ (steps : EachStepLeavesTheRest) (come : AggregatesComeAndGo) (by_reply : DescriptorsComeByReplies) where
   -- a live worker whose calls use only files and the pipe changes nothing outside its domain and the pipe
-  quiet : (m n : State) (p : ℕ) (process_slot next : ProcessSlot Worker) (yields : Bool) (r : Reply)
+  confined : (m n : State) (p : ℕ) (process_slot next : ProcessSlot Worker) (yields : Bool) (r : Reply)
       → is_live m process_slot.by ≡ true
       → ((k : Call) (v : Worker)
       → works process_slot.process process_slot.last (readable_at m process_slot.by) (turn.Make k) v
       → keeps_to m process_slot.by p k ≡ true)
       → ProcessSlotTurn copying worker_turns m process_slot yields r n next → LeavesAllBut m process_slot.by p n
-  quiet m n p process_slot next yields r live keeps (inl starved) =
+  confined m n p process_slot next yields r live keeps (inl starved) =
       same steps come by_reply m n process_slot.by p starved.machine_stays
-  quiet m n p process_slot next yields r live keeps (inr did) =
+  confined m n p process_slot next yields r live keeps (inr did) =
       let goes =
       subst (λ (l : ℕ → Option (List ℕ)). works process_slot.process process_slot.last l did.turn next.process)
       (readable-live m process_slot.by live) did.proceeds in
@@ -403,7 +403,7 @@ module _ (steps : EachStepLeavesTheRest) (come : AggregatesComeAndGo) (by_reply 
       → ProcessSlotTurn copying worker_turns m process_slot yields r n next
       → LeavesAllBut m process_slot.by j n × (descriptor n process_slot.by 0 ≡ Some (on.ReadEnd j))
   free m n j process_slot next yields r live is_free opened did = (
-    quiet m n j process_slot next yields r live
+    confined m n j process_slot next yields r live
         (λ k v goes. ap (λ c. keeps_to m process_slot.by j c) (free_keeps m j process_slot is_free opened k v goes)
         ∙ job_queue_is m process_slot.by j opened) did,
     kept did,
@@ -435,7 +435,7 @@ module _ (steps : EachStepLeavesTheRest) (come : AggregatesComeAndGo) (by_reply 
       → HasRead m p process_slot unseen → ProcessSlotTurn copying worker_turns m process_slot yields r n next
       → LeavesAllBut m process_slot.by p n
   begins m n p process_slot next yields r unseen h did =
-      quiet m n p process_slot next yields r h.begins.feeds.live keeps did
+      confined m n p process_slot next yields r h.begins.feeds.live keeps did
     where
       keeps : (k : Call) (v : Worker)
           → works process_slot.process process_slot.last (readable_at m process_slot.by) (turn.Make k) v
@@ -455,7 +455,7 @@ module _ (steps : EachStepLeavesTheRest) (come : AggregatesComeAndGo) (by_reply 
       (unseen : List Outcome → List ℕ)
       → IsRunning m p process_slot unseen → ProcessSlotTurn copying worker_turns m process_slot yields r n next
       → LeavesAllBut m process_slot.by p n
-  runs m n p process_slot next yields r unseen i did = quiet m n p process_slot next yields r i.feeds.live keeps did
+  runs m n p process_slot next yields r unseen i did = confined m n p process_slot next yields r i.feeds.live keeps did
     where
       keeps : (k : Call) (v : Worker)
           → works process_slot.process process_slot.last (readable_at m process_slot.by) (turn.Make k) v
@@ -469,8 +469,8 @@ module _ (steps : EachStepLeavesTheRest) (come : AggregatesComeAndGo) (by_reply 
           ap (λ c. keeps_to m process_slot.by p c) is.call_is
           ∙ step_keeps m process_slot.by p w.job step.piece step.begun step.phase i.feeds.open_on i.feeds.needs
 
-pub workers_are_quiet : EachStepLeavesTheRest → AggregatesComeAndGo → DescriptorsComeByReplies → WorkersAreQuiet
-workers_are_quiet steps come by_reply = record {
+pub workers_are_confined : EachStepLeavesTheRest → AggregatesComeAndGo → DescriptorsComeByReplies → WorkersAreConfined
+workers_are_confined steps come by_reply = record {
   free = free steps come by_reply;
   begins = begins steps come by_reply;
   runs = runs steps come by_reply;

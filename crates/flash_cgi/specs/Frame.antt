@@ -25,7 +25,7 @@ pub record LeavesAllBut (m : State) (d p : ℕ) (n : State) : Type 0 where
   -- the job pipe of the domain is unchanged, too
   pub job_queue : (j : ℕ) → j ≢ p → descriptor m d 0 ≡ Some (on.ReadEnd j) → descriptor n d 0 ≡ Some (on.ReadEnd j)
 
-pub record WorkersAreQuiet : Type 0 where
+pub record WorkersAreConfined : Type 0 where
   -- a free worker changes only its job pipe, and will read it again
   pub free : (m n : State) (j : ℕ) (process_slot next : ProcessSlot Worker) (yields : Bool) (r : Reply)
       → IsTrue (is_live m process_slot.by)

@@ -10,7 +10,7 @@ pub use Rattle.flash_cgi.specs.Feeds.{FeedsOn}
 pub use Rattle.flash_cgi.specs.Free.{WorkersStayFree}
 pub use Rattle.flash_cgi.specs.Full.{RunningIsFull}
 pub use Rattle.flash_cgi.specs.Uses.{WorkersKeepNothing}
-pub use Rattle.flash_cgi.specs.Frame.{WorkersAreQuiet}
+pub use Rattle.flash_cgi.specs.Frame.{WorkersAreConfined}
 pub use Rattle.flash_cgi.specs.LongPieces.{PiecesAreLong}
 pub use Rattle.flash_cgi.specs.Outcomes.{OutcomesAreTrue, outcomes_in}
 pub use Rattle.flash_cgi.specs.OutputPools.{OutputsAreShown}

@@ -1,7 +1,7 @@
 -- Results of the parts of a worker's turn: a turn, or out of memory.
 use Rattle.std.specs.Prelude.{◌≡◌, ◌<◌, ℕ, List, length, Option, IfOk, OnErr, Result, IsTrue}
 use Rattle.iol_core.specs.declared.events.Reply.{Reply}
-use Rattle.iol_proc.specs.Quiet.{IsCopyFree}
+use Rattle.iol_proc.specs.CopyFree.{IsCopyFree}
 use Rattle.iol_proc.specs.declared.process.Turn.{Turn}
 use Rattle.flash_cgi.specs.Wants.{WantsByReply, WantsOn, WantsToFile, has_bytes}
 use Rattle.flash_cgi.specs.WorkerSteps.{after_reply}
@@ -15,7 +15,7 @@ pub record TakesTurn {E : Type 0} (goes : Turn → Worker → Type 0) (may_want 
     (result : Result Turn E)
     (new : Worker) : Type 0 where
   pub turn : IfOk result (λ made. goes made new)
-  pub quiet : IfOk result IsCopyFree
+  pub copy_free : IfOk result IsCopyFree
   pub err : OnErr result (new ≡ old)
   pub wants : OnErr result may_want
 

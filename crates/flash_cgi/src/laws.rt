@@ -1,5 +1,5 @@
 //! Laws of scripts and workers. The functions have no effect; their contracts are the laws.
-ghost use Rattle.flash_cgi.specs.Laws.{OthersReceive, ScriptsPutOut, WorkersStop, FeedsOn, WorkersStayFree, RunningIsFull, WorkersKeepNothing, JobsAreRead, WorkersAreQuiet, OutcomesAreTrue, OutputsAreShown, JobsAreTaken, PiecesAreLong, TurnsFeed, WaitingIsEmpty};
+ghost use Rattle.flash_cgi.specs.Laws.{OthersReceive, ScriptsPutOut, WorkersStop, FeedsOn, WorkersStayFree, RunningIsFull, WorkersKeepNothing, JobsAreRead, WorkersAreConfined, OutcomesAreTrue, OutputsAreShown, JobsAreTaken, PiecesAreLong, TurnsFeed, WaitingIsEmpty};
 
 use iol_laws::laws;
 
@@ -75,7 +75,7 @@ pub fn scripts_put_out()
 {
     turns_feed();
     others_receive();
-    workers_are_quiet();
+    workers_are_confined();
     laws::calls_serve_their_domain();
 }
 
@@ -123,8 +123,8 @@ pub fn workers_keep_nothing()
 
 /// A worker's turn changes only its own domain and one pipe: its job pipe while it is free, then
 /// its output pipe.
-pub fn workers_are_quiet()
-    ensures { WorkersAreQuiet }
+pub fn workers_are_confined()
+    ensures { WorkersAreConfined }
 {
     laws::each_step_leaves_the_rest();
     laws::aggregates_come_and_go();

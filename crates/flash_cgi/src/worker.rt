@@ -170,7 +170,7 @@ impl Process for Worker {
     fn next(&mut self, last: &Reply, look: &Look<'_>) -> Result<Turn, AllocError>
         ensures turn { IfOk result
             (λ turn. account.works self.old last.now (readable look.now) turn self.new) }
-        ensures quiet { IfOk result IsCopyFree }
+        ensures copy_free { IfOk result IsCopyFree }
         ensures err { OnErr result (self.new ≡ self.old) }
 
         // It needs memory only to parse a text of at least one byte, and for the bytes of a call.

@@ -11,7 +11,7 @@ use Rattle.iol_core.specs.declared.events.Reply.{Reply}
 use Rattle.iol_core.specs.declared.events.Reply.TheVariants as reply
 use Rattle.iol_laws.specs.ConnNumbers.{ConnectionNumbersRise}
 use Rattle.iol_proc.specs.Histories.{stream_over, sent_over}
-use Rattle.iol_proc.specs.World.{OutsideStep, Stage, copying}
+use Rattle.iol_proc.specs.World.{OutsideStep, WorldState, copying}
 use Rattle.iol_proc.specs.declared.choice.Choice.{Choice}
 use Rattle.iol_proc.specs.declared.choice.Choice.TheVariants as choice
 use Rattle.flash_laws.specs.Serves.Rounds.{in_rounds}
@@ -54,7 +54,7 @@ never true is = absurd (cc (is))
 module _ (worker_set : WorkerSet) (keeps : RunKeepsConsistency in_rounds worker_set)
     (answered : ConsistentIsAnswered worker_set) (whole : ConsistentIsWhole worker_set)
     (numbers : ConnectionNumbersRise) (site_contents : SiteContents) where
-  made_new : (past : List Choice) (ps : List Reply) (c : ℕ) (w mid : Stage State (Actor worker_set.Worker))
+  made_new : (past : List Choice) (ps : List Reply) (c : ℕ) (w mid : WorldState State (Actor worker_set.Worker))
       → Consistent site_contents worker_set past ps w
       → OutsideStep copying (actor_turns in_rounds worker_set.turns) w (event.ConnNew net_pool) (reply.Conn c) mid
       → HasNone (past_of (past ++ choice.Outside (event.ConnNew net_pool) ∷ []) (ps ++ reply.Conn c ∷ [])) c
@@ -76,7 +76,7 @@ module _ (worker_set : WorkerSet) (keeps : RunKeepsConsistency in_rounds worker_
       none = consistent.in_slots.serves.fit.fresh c (omega (arith, number))
 
   module _ (past : List Choice) (ps : List Reply) (c : ℕ) (came sent : List ℕ) (gone : Bool)
-      (w after : Stage State (Actor worker_set.Worker))
+      (w after : WorldState State (Actor worker_set.Worker))
       (consistent : Consistent site_contents worker_set past ps w)
       (visit : IsVisit worker_set.turns c came sent gone w after)
       (fair : AreFair site_contents.refuses visit.choices visit.replies) where

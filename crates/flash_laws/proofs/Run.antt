@@ -4,7 +4,7 @@ pub mod ScriptExamples
 pub mod Stays
 pub mod Rest
 pub mod Parts
-pub mod Quiet
+pub mod TakesNothing
 pub mod Takes
 pub mod Moves
 pub mod Progress

@@ -23,7 +23,7 @@ use Rattle.iol_laws.specs.DescriptorNumbers.{DescriptorsComeByReplies, AreLow}
 use Rattle.iol_laws.specs.Order.{IsOrderly, EachStepKeepsOrder}
 use Rattle.iol_proc.specs.Quiescence.{Claim}
 use Rattle.iol_proc.specs.Turns.{TransitionRelation}
-use Rattle.iol_proc.specs.World.{Stage}
+use Rattle.iol_proc.specs.World.{WorldState}
 use Rattle.iol_proc.specs.declared.choice.Choice.{Choice}
 use Rattle.iol_proc.specs.declared.choice.Choice.TheVariants as choice
 use Rattle.iol_proc.specs.declared.process.Turn.TheVariants as turn
@@ -211,7 +211,7 @@ module _ (orders : EachStepKeepsOrder) (descriptors : DescriptorsComeByReplies) 
     scripts = refl;
   }
 
-  abbrev new_world : Stage State (Actor W)
+  abbrev new_world : WorldState State (Actor W)
   new_world =
       record {
         machine = site;
@@ -237,10 +237,10 @@ module _ (orders : EachStepKeepsOrder) (descriptors : DescriptorsComeByReplies) 
     no_conns = λ c. refl;
   }
 
-  abbrev with_conn_1 : Stage State (Actor W)
+  abbrev with_conn_1 : WorldState State (Actor W)
   with_conn_1 = record new_world { machine = then_on site (event.ConnNew 2) }
 
-  abbrev accepted_1 : Stage State (Actor W)
+  abbrev accepted_1 : WorldState State (Actor W)
   accepted_1 = record {
     machine = then_on (then_on site (event.ConnNew 2)) (event.Call 1 call.Accept);
     process_slots =

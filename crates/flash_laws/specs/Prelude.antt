@@ -21,4 +21,4 @@ pub use Rattle.flash_laws.specs.World.Done.{IdleIsDone}
 pub use Rattle.flash_laws.specs.World.Host.{HostIsRight}
 pub use Rattle.flash_laws.specs.World.Idle.{actor_quiescent}
 pub use Rattle.flash_laws.specs.World.Quiesces.{ActorsQuiesce}
-pub use Rattle.flash_laws.specs.World.Consistency.{Actor, Serving, actor_turns, actor_wants, server_account}
+pub use Rattle.flash_laws.specs.World.Consistency.{Actor, Serving, actor_turns, actor_wants, server_transitions}

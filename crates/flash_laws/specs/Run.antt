@@ -6,7 +6,7 @@ pub mod Fits
 pub mod OfferedBytes
 pub mod Holdings
 pub mod Wants
-pub mod Stages
+pub mod WorkerStates
 use Rattle.std.specs.Prelude.{ℕ, min, ◌+◌, ◌-◌, ◌==◌, ◌&&◌, ◌||◌, nat_lt, not, Bool, true, false, List, [], ◌∷◌, Option}
 use Rattle.std.specs.Prelude.{Some, None, if◌then◌else◌}
 use Rattle.iol_core.specs.declared.refusals.Refusal.{Refusal}

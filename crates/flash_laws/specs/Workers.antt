@@ -112,7 +112,7 @@ module _ {W : Type 0} (works : TransitionRelation W) (quiescent : Claim W) (pool
         → pipe_at n j ≡ pipe_at m j
         → Expected m j p process_slot made text → Gave m n j p process_slot made text
     -- its turn changes only its own domain, and one pipe
-    pub quiet : (m n : State) (j p : ℕ) (process_slot next : ProcessSlot W) (yields : Bool) (r : Reply) (made : Made)
+    pub confined : (m n : State) (j p : ℕ) (process_slot next : ProcessSlot W) (yields : Bool) (r : Reply) (made : Made)
         (text : List ℕ)
         → Expected m j p process_slot made text
         → ProcessSlotTurn copying works m process_slot yields r n next → LeavesAllBut m process_slot.by j n

@@ -18,7 +18,7 @@ use Rattle.iol_laws.specs.Caller.{readable_at}
 use Rattle.iol_laws.specs.Order.{IsOrderly}
 use Rattle.iol_proc.specs.Histories.{stream_over, sent_over}
 use Rattle.iol_proc.specs.FailureFree.{AreFailureFree}
-use Rattle.iol_proc.specs.World.{Stage, copying, WorldStep, WorldRun}
+use Rattle.iol_proc.specs.World.{WorldState, copying, WorldStep, WorldRun}
 use Rattle.iol_proc.specs.declared.choice.Choice.{Choice}
 use Rattle.iol_proc.specs.declared.process_slot.ProcessSlot.{ProcessSlot}
 use Rattle.flash_laws.specs.World.Undisturbed.{IsSitePreserving, AreSitePreserving}
@@ -64,7 +64,7 @@ module _ (site_contents : SiteContents) (worker_set : WorkerSet) where
     pub fit : AllFit site_contents worker_set m p (filed s.workers s.clients s.pending_call last received) process_slots
     pub owned : AreOwned m p (filed s.workers s.clients s.pending_call last received)
 
-  pub record AreInSlots (w : Stage State (Actor worker_set.Worker)) (p : Past) : Type 0 where
+  pub record AreInSlots (w : WorldState State (Actor worker_set.Worker)) (p : Past) : Type 0 where
     pub state : Server
     pub last : Reply
     pub workers : List (ProcessSlot worker_set.Worker)
@@ -72,7 +72,8 @@ module _ (site_contents : SiteContents) (worker_set : WorkerSet) where
     pub serves : IsServing w.machine p state last workers
 
   -- The invariant of a world, by the choices that were made and their replies.
-  pub record Consistent (choices : List Choice) (replies : List Reply) (w : Stage State (Actor worker_set.Worker)) :
+  pub record Consistent (choices : List Choice) (replies : List Reply)
+      (w : WorldState State (Actor worker_set.Worker)) :
       Type 0 where
     pub even : length choices ≡ length replies
     pub order : IsOrderly w.machine
@@ -80,7 +81,7 @@ module _ (site_contents : SiteContents) (worker_set : WorkerSet) where
     pub in_slots : AreInSlots w (past_of choices replies)
 
   -- A new world: the server has nothing, including aggregates, each worker is free, and there are no connections.
-  pub record IsNew (w : Stage State (Actor worker_set.Worker)) : Type 0 where
+  pub record IsNew (w : WorldState State (Actor worker_set.Worker)) : Type 0 where
     pub order : IsOrderly w.machine
     pub fixed : IsFixedFor site_contents worker_set w.machine
     pub workers : List (ProcessSlot worker_set.Worker)
@@ -122,26 +123,28 @@ JobQueuesAreApart worker_set = (k l : ℕ) → k < worker_set.count → l < work
 module _ (worker_set : WorkerSet) where
   -- A new world has the invariant.
   abbrev pub ConsistentAtFirst : Type 0
-  ConsistentAtFirst = (site_contents : SiteContents) (w : Stage State (Actor worker_set.Worker))
+  ConsistentAtFirst = (site_contents : SiteContents) (w : WorldState State (Actor worker_set.Worker))
       → IsNew site_contents worker_set w → Consistent site_contents worker_set [] [] w
 
   -- In a world with the invariant, the output of each connection of the net begins its answer, and is all of it if the
   -- connection is closed, unless its peer left.
   abbrev pub ConsistentIsAnswered : Type 0
   ConsistentIsAnswered =
-      (site_contents : SiteContents) (xs : List Choice) (rs : List Reply) (w : Stage State (Actor worker_set.Worker))
+      (site_contents : SiteContents) (xs : List Choice) (rs : List Reply)
+      (w : WorldState State (Actor worker_set.Worker))
       → Consistent site_contents worker_set xs rs w → AllAnswered site_contents xs rs w.machine
 
   abbrev pub ConsistentIsWhole : Type 0
   ConsistentIsWhole =
-      (site_contents : SiteContents) (xs : List Choice) (rs : List Reply) (w : Stage State (Actor worker_set.Worker))
+      (site_contents : SiteContents) (xs : List Choice) (rs : List Reply)
+      (w : WorldState State (Actor worker_set.Worker))
       → Consistent site_contents worker_set xs rs w → ClosedAreWhole site_contents xs rs w.machine
 
 module _ (may : Policy) (worker_set : WorkerSet) where
   -- Each step that is site-preserving, and fair if it is a turn, preserves the invariant.
   abbrev pub StepKeepsConsistency : Type 0
   StepKeepsConsistency = (site_contents : SiteContents) (xs : List Choice) (rs : List Reply) (x : Choice) (r : Reply)
-      (w after : Stage State (Actor worker_set.Worker))
+      (w after : WorldState State (Actor worker_set.Worker))
       → WorldStep copying (actor_turns may worker_set.turns) w x r after
       → IsSitePreserving w x after → AreFair site_contents.refuses (x ∷ []) (r ∷ [])
       → Consistent site_contents worker_set xs rs w
@@ -151,7 +154,7 @@ module _ (may : Policy) (worker_set : WorkerSet) where
   abbrev pub RunKeepsConsistency : Type 0
   RunKeepsConsistency =
       (site_contents : SiteContents) (past xs : List Choice) (ps rs : List Reply)
-      (w after : Stage State (Actor worker_set.Worker))
+      (w after : WorldState State (Actor worker_set.Worker))
       → (run : WorldRun copying (actor_turns may worker_set.turns) w xs rs after)
       → AreSitePreserving (actor_turns may worker_set.turns) w xs rs after run
       → AreFair site_contents.refuses xs rs → Consistent site_contents worker_set past ps w
@@ -161,8 +164,8 @@ module _ (may : Policy) (worker_set : WorkerSet) where
 -- of the net is created and accepted.
 pub record ARunIsUndisturbed (worker_set : WorkerSet) : Type 0 where
   pub site_contents : SiteContents
-  pub first : Stage State (Actor worker_set.Worker)
-  pub after : Stage State (Actor worker_set.Worker)
+  pub first : WorldState State (Actor worker_set.Worker)
+  pub after : WorldState State (Actor worker_set.Worker)
   pub choices : List Choice
   pub replies : List Reply
   pub is_new : IsNew site_contents worker_set first

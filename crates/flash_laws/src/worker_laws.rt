@@ -19,7 +19,7 @@ pub fn workers_run()
     scripts::workers_stay_free();
     scripts::scripts_put_out();
     scripts::others_receive();
-    scripts::workers_are_quiet();
+    scripts::workers_are_confined();
     scripts::outputs_are_shown();
     scripts::running_is_full();
     laws::each_step_leaves_the_rest();

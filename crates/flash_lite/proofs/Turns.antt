@@ -3,4 +3,4 @@ pub mod Invariant
 pub mod Wants
 pub mod FreeWorkers
 pub mod Firsts
-pub mod Quiet
+pub mod CopyFree

@@ -6,7 +6,7 @@ use Rattle.iol_core.specs.declared.events.Call.{Call}
 use Rattle.iol_core.specs.declared.events.Call.TheVariants as call
 use Rattle.iol_core.specs.declared.events.Event.TheVariants as event
 use Rattle.iol_core.specs.declared.events.Reply.{Reply}
-use Rattle.iol_proc.specs.World.{Stage}
+use Rattle.iol_proc.specs.World.{WorldState}
 use Rattle.iol_proc.specs.declared.choice.Choice.{Choice}
 use Rattle.iol_proc.specs.declared.choice.Choice.TheVariants as choice
 use Rattle.flash_cgi.specs.declared.worker.Worker.{Worker}
@@ -42,13 +42,13 @@ AreHarmless s xs = AllByRecursion (λ x. IsHarmless (workers_used s) x) xs
 -- Harmless choices are site-preserving, whatever is hosted, if their turns were fair.
 abbrev pub HarmlessIsSitePreserving : Type 0
 HarmlessIsSitePreserving = (s : Site) (slots : List (List ℕ)) (xs : List Choice) (rs : List Reply) (turns : ℕ)
-    (idle : Bool) (after : Stage State (Actor Worker)) (hosts : Hosts s slots xs rs turns idle after)
+    (idle : Bool) (after : WorldState State (Actor Worker)) (hosts : Hosts s slots xs rs turns idle after)
     → (refuses : Refusals) → AreHarmless s xs → AreFair refuses xs rs
     → IsMildlyUsed s slots xs rs turns idle after hosts
 
 -- So a site hosted with them is right, for the input of these choices: the turns in rounds after them add none.
 module _ (s : Site) (slots : List (List ℕ)) (xs : List Choice) (rs : List Reply) (turns : ℕ) (idle : Bool)
-    (after : Stage State (Actor Worker)) (hosts : Hosts s slots xs rs turns idle after) where
+    (after : WorldState State (Actor Worker)) (hosts : Hosts s slots xs rs turns idle after) where
   abbrev pub IsRightNow : (refuses : Refusals) → Type 0
   IsRightNow refuses = IsRight (worker_set_of s) (library_of s slots refuses) xs rs idle after
 
@@ -65,5 +65,5 @@ module _ (s : Site) (slots : List (List ℕ)) (xs : List Choice) (rs : List Repl
 
 abbrev pub HarmlessIsRight : Type 0
 HarmlessIsRight = (s : Site) (slots : List (List ℕ)) (xs : List Choice) (rs : List Reply) (turns : ℕ)
-    (idle : Bool) (after : Stage State (Actor Worker)) (hosts : Hosts s slots xs rs turns idle after)
+    (idle : Bool) (after : WorldState State (Actor Worker)) (hosts : Hosts s slots xs rs turns idle after)
     → IsRightIfHarmless s slots xs rs turns idle after hosts

@@ -3,7 +3,7 @@ use Rattle.std.specs.Prelude.{◌≡◌, ◌≤◌, ℕ, Bool, List, ◌++◌, l
 use Rattle.iol_core.specs.State.{State}
 use Rattle.iol_core.specs.declared.events.Reply.{Reply}
 use Rattle.iol_proc.specs.Idle.{rounds}
-use Rattle.iol_proc.specs.World.{Stage, domains_of}
+use Rattle.iol_proc.specs.World.{WorldState, domains_of}
 use Rattle.iol_proc.specs.declared.choice.Choice.{Choice}
 use Rattle.flash_cgi.specs.declared.worker.Worker.{Worker}
 use Rattle.flash_laws.specs.SiteContents.{Refusals}
@@ -20,7 +20,7 @@ use Rattle.flash_lite.specs.declared.site.Site.{Site}
 -- open, and their number suffices. None of them is refused for lack of table entries, pages or memory.
 pub record IsHostedLongEnough (s : Site) (slots : List (List ℕ)) (xs : List Choice) (rs : List Reply) (turns : ℕ)
     (idle : Bool)
-    (after : Stage State (Actor Worker)) (hosts : Hosts s slots xs rs turns idle after) : Type 0 where
+    (after : WorldState State (Actor Worker)) (hosts : Hosts s slots xs rs turns idle after) : Type 0 where
   pub files : workers_used s ≡ 0
   pub site_preserving : IsMildlyUsed s slots xs rs turns idle after hosts
   pub places : CanPlace hosts.mid.machine
@@ -31,7 +31,7 @@ pub record IsHostedLongEnough (s : Site) (slots : List (List ℕ)) (xs : List Ch
 -- that these refusals permit.
 abbrev pub HostedFilesBecomeIdle : Type 0
 HostedFilesBecomeIdle = (s : Site) (slots : List (List ℕ)) (xs : List Choice) (rs : List Reply) (turns : ℕ)
-    (idle : Bool) (after : Stage State (Actor Worker)) (hosts : Hosts s slots xs rs turns idle after)
+    (idle : Bool) (after : WorldState State (Actor Worker)) (hosts : Hosts s slots xs rs turns idle after)
     → IsHostedLongEnough s slots xs rs turns idle after hosts
     → IsTrue idle
     × ((refuses : Refusals) → HasFairTurns s slots xs rs turns idle after hosts refuses

@@ -7,7 +7,7 @@ use Rattle.iol_core.specs.declared.events.Reply.{Reply}
 use Rattle.iol_proc.specs.Idle.{Idles, rounds}
 use Rattle.iol_proc.specs.Laws.{HasEvents}
 use Rattle.iol_system.specs.Prelude.{slots_of}
-use Rattle.iol_proc.specs.World.{Stage, copied, copying, sharing, WorldRun, domains_of}
+use Rattle.iol_proc.specs.World.{WorldState, copied, copying, sharing, WorldRun, domains_of}
 use Rattle.iol_proc.specs.declared.choice.Choice.{Choice}
 use Rattle.iol_system.specs.Machine.{SystemState}
 use Rattle.flash_cgi.specs.declared.worker.Worker.{Worker}
@@ -28,7 +28,7 @@ use Rattle.flash_lite.specs.declared.site.Site.{Site}
 
 -- The world of a site that was set up over these slots, before its first turn: it is new in the sense of the law over
 -- whole worlds, whichever refusals calls may get later.
-pub record IsNewWorld (s : Site) (slots : List (List ℕ)) (w : Stage State (Actor Worker)) : Type 0 where
+pub record IsNewWorld (s : Site) (slots : List (List ℕ)) (w : WorldState State (Actor Worker)) : Type 0 where
   pub machine : w.machine ≡ state_of s slots
   pub process_slots : AreInSlots s w.process_slots
   pub failure_free : IsFalse w.resource_failure
@@ -37,20 +37,20 @@ pub record IsNewWorld (s : Site) (slots : List (List ℕ)) (w : Stage State (Act
 -- A site over these slots executes its choices, with these replies, and then takes at most this number of turns in
 -- rounds.
 pub record Hosts (s : Site) (slots : List (List ℕ)) (xs : List Choice) (rs : List Reply)
-    (turns : ℕ) (idle : Bool) (after : Stage State (Actor Worker)) : Type 0 where
-  pub first : Stage State (Actor Worker)
+    (turns : ℕ) (idle : Bool) (after : WorldState State (Actor Worker)) : Type 0 where
+  pub first : WorldState State (Actor Worker)
   pub new : IsNewWorld s slots first
-  pub mid : Stage State (Actor Worker)
+  pub mid : WorldState State (Actor Worker)
   pub run : WorldRun copying (actor_turns in_rounds worker_turns) first xs rs mid
   pub ends : Idles copying (actor_turns in_rounds worker_turns) mid turns idle after
 
 -- The same for a system with these parameters, over any store: the whole run, from the new system on, is a chain of the
 -- system's steps, and a store that is honest before is honest after.
 pub record HostsOver (config : Config) (store : Disk) (s : Site) (xs : List Choice) (rs : List Reply)
-    (turns : ℕ) (idle : Bool) (after : Stage SystemState (Actor Worker)) : Type 0 where
-  pub first : Stage SystemState (Actor Worker)
+    (turns : ℕ) (idle : Bool) (after : WorldState SystemState (Actor Worker)) : Type 0 where
+  pub first : WorldState SystemState (Actor Worker)
   pub starts : Starts config store s first
-  pub mid : Stage SystemState (Actor Worker)
+  pub mid : WorldState SystemState (Actor Worker)
   pub run : WorldRun sharing (actor_turns in_rounds worker_turns) first xs rs mid
   pub ends : Idles sharing (actor_turns in_rounds worker_turns) mid turns idle after
   pub events : HasEvents starts.begun after.machine
@@ -58,17 +58,17 @@ pub record HostsOver (config : Config) (store : Disk) (s : Site) (xs : List Choi
 
 -- Over an honest store, the world of a system in the copying machine is new over the store's slots before its first
 -- turn.
-abbrev pub IsNewIfHonest : (store : Disk) → Site → Stage SystemState (Actor Worker) → Type 0
+abbrev pub IsNewIfHonest : (store : Disk) → Site → WorldState SystemState (Actor Worker) → Type 0
 IsNewIfHonest store s w = IfHonest store (IsNewWorld s (slots_of store.slots) (copied w))
 
 -- Over an honest store the site is hosted over the store's slots, and this is the system's world after it.
 abbrev pub HostsIfHonest : (store : Disk) → Site → List Choice → List Reply → (turns : ℕ) → (idle : Bool)
-    → (after : Stage SystemState (Actor Worker)) → Type 0
+    → (after : WorldState SystemState (Actor Worker)) → Type 0
 HostsIfHonest store s xs rs turns idle after =
     IfHonest store (Hosts s (slots_of store.slots) xs rs turns idle (copied after))
 
 module _ (s : Site) (slots : List (List ℕ)) (xs : List Choice) (rs : List Reply) (turns : ℕ) (idle : Bool)
-    (after : Stage State (Actor Worker)) (hosts : Hosts s slots xs rs turns idle after) where
+    (after : WorldState State (Actor Worker)) (hosts : Hosts s slots xs rs turns idle after) where
   -- external calls were site-preserving
   abbrev pub IsMildlyUsed : Type 0
   IsMildlyUsed = AreSitePreserving (actor_turns in_rounds worker_turns) hosts.first xs rs hosts.mid hosts.run
@@ -102,5 +102,5 @@ module _ (s : Site) (slots : List (List ℕ)) (xs : List Choice) (rs : List Repl
 
 abbrev pub HostedIsRight : Type 0
 HostedIsRight = (s : Site) (slots : List (List ℕ)) (xs : List Choice) (rs : List Reply) (turns : ℕ)
-    (idle : Bool) (after : Stage State (Actor Worker)) (hosts : Hosts s slots xs rs turns idle after)
+    (idle : Bool) (after : WorldState State (Actor Worker)) (hosts : Hosts s slots xs rs turns idle after)
     → IsRightAsHosted s slots xs rs turns idle after hosts

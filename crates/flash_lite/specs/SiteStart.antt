@@ -8,7 +8,7 @@ use Rattle.iol_core.specs.declared.limits.TheConstants.{CHUNK_PAGES}
 use Rattle.iol_core.specs.declared.refusals.Refusal.{Refusal}
 use Rattle.iol_core.specs.declared.refusals.Refusal.TheVariants.{BadRange, Memory}
 use Rattle.iol_system.specs.Prelude.{no_entry, slots_of}
-use Rattle.iol_proc.specs.World.{Stage}
+use Rattle.iol_proc.specs.World.{WorldState}
 use Rattle.iol_system.specs.Machine.{SystemState, machine_of}
 use Rattle.iol_system.specs.Safe.{IsSafe}
 use Rattle.flash_cgi.specs.declared.worker.Worker.{Worker}
@@ -33,7 +33,7 @@ pub record IsNewSystem (config : Config) (store : Disk) (s : SystemState) : Type
 
 -- The world of a site on such a system, which executed the calls of the site, none refused: it is set up, and each
 -- process has Done as its last reply.
-pub record Starts (config : Config) (store : Disk) (s : Site) (w : Stage SystemState (Actor Worker)) : Type 0 where
+pub record Starts (config : Config) (store : Disk) (s : Site) (w : WorldState SystemState (Actor Worker)) : Type 0 where
   pub begun : SystemState
   pub new : IsNewSystem config store begun
   pub made : IsMade s begun w.machine

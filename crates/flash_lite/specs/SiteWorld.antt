@@ -3,7 +3,7 @@ use Rattle.std.specs.Prelude.{◌≡◌, ◌≤◌, ℕ, List, length, IsTrue}
 use Rattle.iol_back.specs.Disk.{IfHonest}
 use Rattle.iol_core.specs.State.{State, new_state}
 use Rattle.iol_core.specs.declared.limits.TheConstants.{MAX_FILES}
-use Rattle.iol_proc.specs.World.{Stage}
+use Rattle.iol_proc.specs.World.{WorldState}
 use Rattle.iol_system.specs.Machine.{SystemState, machine_of}
 use Rattle.flash_cgi.specs.declared.worker.Worker.{Worker}
 use Rattle.flash_laws.specs.SiteContents.{Refusals}
@@ -17,14 +17,15 @@ use Rattle.flash_lite.specs.declared.site.Site.{Site}
 
 -- The world is new, with the files in the slots and the workers of the site, if the machine was new and had enough
 -- slots, whichever refusals calls may get later.
-abbrev pub IsNewFor : Site → (old : State) → Stage State (Actor Worker) → Type 0
+abbrev pub IsNewFor : Site → (old : State) → WorldState State (Actor Worker) → Type 0
 IsNewFor s old w = (slots : List (List ℕ)) (refuses : Refusals) → old ≡ new_state slots → MAX_FILES ≤ length slots
     → IsNew (library_of s slots refuses) (worker_set_of s) w
 
 -- each world of the site's processes on this machine is new, with the contents of the slots, if the machine was new and
 -- had enough slots
 abbrev pub IsNewAt : Site → (old new : State) → Type 0
-IsNewAt s old new = (w : Stage State (Actor Worker)) → w.machine ≡ new → AreInSlots s w.process_slots → IsNewFor s old w
+IsNewAt s old new = (w : WorldState State (Actor Worker)) → w.machine ≡ new → AreInSlots s w.process_slots
+    → IsNewFor s old w
 
 -- A system is set up for a site: its machine executes the site's calls, the slots are unchanged, and each world of the
 -- site's processes on it is new, if the machine was new and had enough slots.
@@ -40,6 +41,6 @@ SetsUpIfHonest s old new = IfHonest old.disk (SetsUpWorld s old new)
 -- The world of a site within its limits is new after the site's calls, none refused, with its processes in their
 -- process slots, if the machine was new and had enough slots.
 abbrev pub SetUpIsANewWorld : Type 0
-SetUpIsANewWorld = (s : Site) (old : State) (w : Stage State (Actor Worker)) → IsTrue (is_in_range s)
+SetUpIsANewWorld = (s : Site) (old : State) (w : WorldState State (Actor Worker)) → IsTrue (is_in_range s)
     → SetsUp s old w.machine
     → AreInSlots s w.process_slots → IsNewFor s old w

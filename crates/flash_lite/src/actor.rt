@@ -50,7 +50,7 @@ impl Process for Worker {
     fn next(&mut self, last: &Reply, look: &Look<'_>) -> Result<Turn, AllocError>
         ensures turn { IfOk result
             (λ turn. works self.old last.now (readable look.now) turn self.new) }
-        ensures quiet { IfOk result IsCopyFree }
+        ensures copy_free { IfOk result IsCopyFree }
         ensures err { OnErr result (self.new ≡ self.old) }
 
         // It needs memory only to parse a job, and for the bytes of its calls.
@@ -110,7 +110,7 @@ impl Process for Actor {
     fn next(&mut self, last: &Reply, look: &Look<'_>) -> Result<Turn, AllocError>
         ensures turn { IfOk result
             (λ turn. acts self.old last.now (readable look.now) turn self.new) }
-        ensures quiet { IfOk result IsCopyFree }
+        ensures copy_free { IfOk result IsCopyFree }
         ensures err { OnErr result (self.new ≡ self.old) }
 
         // The server needs memory only for its buffers and the bytes of its calls, and a worker

@@ -1,7 +1,7 @@
 //! The server: all clients, with one call per turn.
 ghost use Rattle.std.specs.Prelude.{◌≡◌, IfOk, OnErr, OnOk, min};
 ghost use Rattle.iol_proc.specs.Prelude.{readable, IsCopyFree};
-ghost use Rattle.flash_laws.specs.Prelude.{NoneRuns, in_rounds, new_server, received_of, IsShared, server_account, server_wants};
+ghost use Rattle.flash_laws.specs.Prelude.{NoneRuns, in_rounds, new_server, received_of, IsShared, server_transitions, server_wants};
 ghost use Rattle.flash_lite.specs.Accounts.{serves};
 ghost use Rattle.flash_lite.specs.Few.{IsFew};
 ghost use Rattle.flash_lite.specs.ReceivedBytes.{received};
@@ -71,12 +71,12 @@ impl Server {
 }
 
 impl Process for Server {
-    ghost turns = { server_account in_rounds };
+    ghost turns = { server_transitions in_rounds };
 
     fn next(&mut self, last: &Reply, look: &Look<'_>) -> Result<Turn, AllocError>
         ensures turn { IfOk result
             (λ turn. serves self.old last.now (readable look.now) turn self.new) }
-        ensures quiet { IfOk result IsCopyFree }
+        ensures copy_free { IfOk result IsCopyFree }
         ensures err { OnErr result (self.new ≡ self.old) }
 
         // It needs memory only to buffer bytes that it reads, for a new index, to begin a request,

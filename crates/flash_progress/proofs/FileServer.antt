@@ -16,7 +16,7 @@ use Rattle.iol_core.specs.declared.events.Reply.TheVariants as reply
 use Rattle.iol_proc.specs.Idle.{Went, RoundRun}
 use Rattle.iol_proc.specs.ReadableBytes.{readable_to}
 use Rattle.iol_proc.specs.Turns.{Comes, ProcessSlotTurn, is_would_block}
-use Rattle.iol_proc.specs.World.{Stage, copying, PlaceTurn}
+use Rattle.iol_proc.specs.World.{WorldState, copying, PlaceTurn}
 use Rattle.iol_proc.specs.declared.choice.Choice.{Choice}
 use Rattle.iol_proc.specs.declared.choice.Choice.TheVariants as choice
 use Rattle.iol_proc.specs.declared.process.Turn.{Turn}
@@ -95,7 +95,7 @@ module _ (site_contents : SiteContents) (worker_set : WorkerSet) (laws : AllLaws
     (files : site_contents.scripts ≡ false) (none : worker_set.count ≡ 0)
     (longest : ℕ) (short : AreShort site_contents longest) (conns : ℕ) where
   -- the invariant
-  pub record Quiet (w : Stage State (Actor worker_set.Worker)) : Type 0 where
+  pub record IsFileServer (w : WorldState State (Actor worker_set.Worker)) : Type 0 where
     pub xs : List Choice
     pub rs : List Reply
     pub consistent : Consistent site_contents worker_set xs rs w
@@ -118,10 +118,10 @@ module _ (site_contents : SiteContents) (worker_set : WorkerSet) (laws : AllLaws
   first_of f m (process_slot ∷ process_slots) = f m process_slot.process process_slot.last
 
   -- the measure, and the number of polls left in this round
-  abbrev pub left : Stage State (Actor worker_set.Worker) → ℕ
+  abbrev pub left : WorldState State (Actor worker_set.Worker) → ℕ
   left w = first_of turns_left_by w.machine w.process_slots
 
-  abbrev pub polls : Stage State (Actor worker_set.Worker) → ℕ
+  abbrev pub polls : WorldState State (Actor worker_set.Worker) → ℕ
   polls w = first_of asks_by w.machine w.process_slots
 
   no-workers : (m : State) (process_slots : List (ProcessSlot worker_set.Worker))
@@ -130,7 +130,7 @@ module _ (site_contents : SiteContents) (worker_set : WorkerSet) (laws : AllLaws
   no-workers m (process_slot ∷ process_slots) job_queues =
       absurd (let lt = (job_queues.by 0 process_slot refl).0 in omega (arith, lt, none))
 
-  module _ (w : Stage State (Actor worker_set.Worker)) (q : Quiet w) where
+  module _ (w : WorldState State (Actor worker_set.Worker)) (q : IsFileServer w) where
     s : AreInSlots site_contents worker_set w (past_of q.xs q.rs)
     s = q.consistent.in_slots
 
@@ -169,7 +169,7 @@ module _ (site_contents : SiteContents) (worker_set : WorkerSet) (laws : AllLaws
         q.consistent.in_slots.serves.fit
 
     -- the server's turn
-    record Turned (after : Stage State (Actor worker_set.Worker)) (yields : Bool) (r : Reply) : Type 0 where
+    record Turned (after : WorldState State (Actor worker_set.Worker)) (yields : Bool) (r : Reply) : Type 0 where
       pub state : Server
       pub made : Turn
       pub goes : server_turns in_rounds q.consistent.in_slots.state q.consistent.in_slots.last
@@ -177,7 +177,7 @@ module _ (site_contents : SiteContents) (worker_set : WorkerSet) (laws : AllLaws
       pub comes : Comes copying (actor_turns in_rounds worker_set.turns) w.machine server made yields r after.machine
       pub now : after.process_slots ≡ record { by = server; process = Serving state; last = r } ∷ []
 
-    turned : (after : Stage State (Actor worker_set.Worker)) (yields : Bool) (r : Reply)
+    turned : (after : WorldState State (Actor worker_set.Worker)) (yields : Bool) (r : Reply)
         → PlaceTurn copying (actor_turns in_rounds worker_set.turns) w 0 yields r after → lacks_resource r ≡ false
         → Turned after yields r
     turned after yields r place failure_free =
@@ -223,7 +223,8 @@ module _ (site_contents : SiteContents) (worker_set : WorkerSet) (laws : AllLaws
     workers-is = q.consistent.in_slots.serves.count
 
     -- the measure after the turn
-    after-left : (after : Stage State (Actor worker_set.Worker)) (yields : Bool) (r : Reply) (d : Turned after yields r)
+    after-left : (after : WorldState State (Actor worker_set.Worker)) (yields : Bool) (r : Reply)
+        (d : Turned after yields r)
         → left after ≡ all_left longest MAX_OPEN conns after.machine
         (filed d.state.workers d.state.clients d.state.pending_call r
         (received_of r (λ a. readable_to after.machine server a)))
@@ -231,7 +232,7 @@ module _ (site_contents : SiteContents) (worker_set : WorkerSet) (laws : AllLaws
         ap (λ (l : List (ProcessSlot (Actor worker_set.Worker))). first_of turns_left_by after.machine l) d.now
 
     -- a call that returns another reply than WouldBlock
-    falls : (after : Stage State (Actor worker_set.Worker)) (r : Reply)
+    falls : (after : WorldState State (Actor worker_set.Worker)) (r : Reply)
         → PlaceTurn copying (actor_turns in_rounds worker_set.turns) w 0 false r after → Allowed site_contents r
         → is_would_block r ≡ false
         → left after < left w
@@ -278,7 +279,7 @@ module _ (site_contents : SiteContents) (worker_set : WorkerSet) (laws : AllLaws
             omega (arith, fell, here, one, two, was)
 
     -- a yield
-    yields : (after : Stage State (Actor worker_set.Worker)) (r : Reply)
+    yields : (after : WorldState State (Actor worker_set.Worker)) (r : Reply)
         → PlaceTurn copying (actor_turns in_rounds worker_set.turns) w 0 true r after → Allowed site_contents r
         → left after ≤ left w
     yields after r place allowed = yielded d.made refl d.comes
@@ -313,7 +314,7 @@ module _ (site_contents : SiteContents) (worker_set : WorkerSet) (laws : AllLaws
         yielded (turn.Make k) is comes = absurd (let bad = comes.0 in cc (bad))
 
     -- a call that would block
-    waits : (after : Stage State (Actor worker_set.Worker))
+    waits : (after : WorldState State (Actor worker_set.Worker))
         → PlaceTurn copying (actor_turns in_rounds worker_set.turns) w 0 false (reply.Refused no.WouldBlock) after
         → (left after ≤ left w) × (polls after < polls w)
     waits after place = called d.made refl d.comes
@@ -400,7 +401,7 @@ module _ (site_contents : SiteContents) (worker_set : WorkerSet) (laws : AllLaws
         few-asked (At fd) = omega arith
 
     -- a turn with an allowed reply keeps the invariant
-    next-known : (after : Stage State (Actor worker_set.Worker)) (yields : Bool) (r : Reply)
+    next-known : (after : WorldState State (Actor worker_set.Worker)) (yields : Bool) (r : Reply)
         → IsAmong site_contents.refuses.of_server r → Turned after yields r
         → CanRead after.machine × CanPlace after.machine × AreFew conns after.machine
     next-known after yields r among d = of d.made refl d.comes
@@ -437,10 +438,10 @@ module _ (site_contents : SiteContents) (worker_set : WorkerSet) (laws : AllLaws
                   did conns q.few,
             )
 
-    quiet-on : (after : Stage State (Actor worker_set.Worker)) (yields : Bool) (r : Reply)
+    file-server-on : (after : WorldState State (Actor worker_set.Worker)) (yields : Bool) (r : Reply)
         → PlaceTurn copying (actor_turns in_rounds worker_set.turns) w 0 yields r after → Allowed site_contents r
-        → Quiet after
-    quiet-on after yields r place allowed = record {
+        → IsFileServer after
+    file-server-on after yields r place allowed = record {
       xs = q.xs ++ choice.Turn place.process_slot.by ∷ [];
       rs = q.rs ++ r ∷ [];
       consistent = step_keeps in_rounds site_contents worker_set laws q.xs q.rs (choice.Turn place.process_slot.by) r w
@@ -458,10 +459,11 @@ module _ (site_contents : SiteContents) (worker_set : WorkerSet) (laws : AllLaws
             (some-inj first place.process_slot
             (sym (ap (λ (l : List (ProcessSlot (Actor worker_set.Worker))). slice_get l 0) alone) ∙ place.sits)))
 
-  decreases : Decreases (actor_turns in_rounds worker_set.turns) Quiet (Allowed site_contents) left polls (MAX_OPEN + 2)
+  decreases : Decreases (actor_turns in_rounds worker_set.turns) IsFileServer (Allowed site_contents) left polls
+      (MAX_OPEN + 2)
   decreases = record {
     one = λ w q. ap (λ (l : List (ProcessSlot (Actor worker_set.Worker))). length l) (alone w q);
-    keeps = λ w after yields r q place allowed. quiet-on w q after yields r place allowed;
+    keeps = λ w after yields r q place allowed. file-server-on w q after yields r place allowed;
     falls = λ w after r q place allowed on. falls w q after r place allowed on;
     waits = λ w after q place. waits w q after place;
     yields = λ w after r q place allowed. yields w q after r place allowed;
@@ -469,21 +471,24 @@ module _ (site_contents : SiteContents) (worker_set : WorkerSet) (laws : AllLaws
   }
 
   -- Turns in rounds with allowed replies end with all idle, if their number suffices for the measure.
-  pub file_server_becomes_idle : IdleComes (actor_turns in_rounds worker_set.turns) Quiet (Allowed site_contents) left
+  pub file_server_becomes_idle : IdleComes (actor_turns in_rounds worker_set.turns) IsFileServer (Allowed site_contents)
+      left
       (MAX_OPEN + 2)
   file_server_becomes_idle =
-      idle_comes (actor_turns in_rounds worker_set.turns) Quiet (Allowed site_contents) left polls (MAX_OPEN + 2)
+      idle_comes (actor_turns in_rounds worker_set.turns) IsFileServer (Allowed site_contents) left polls (MAX_OPEN + 2)
       decreases
 
   -- The invariant holds afterwards.
-  pub quiet_after : (w after : Stage State (Actor worker_set.Worker)) (i : ℕ) (ts : List Went) → Quiet w
+  pub file_server_after : (w after : WorldState State (Actor worker_set.Worker)) (i : ℕ) (ts : List Went)
+      → IsFileServer w
       → RoundRun copying (actor_turns in_rounds worker_set.turns) w i ts after
-      → AllByRecursion (λ t. Allowed site_contents t.1) ts → Quiet after
-  quiet_after = holds-after (actor_turns in_rounds worker_set.turns) Quiet (Allowed site_contents) left polls
+      → AllByRecursion (λ t. Allowed site_contents t.1) ts → IsFileServer after
+  file_server_after = holds-after (actor_turns in_rounds worker_set.turns) IsFileServer (Allowed site_contents) left
+      polls
       (MAX_OPEN + 2) decreases
 
   -- The measure is at most the bound.
-  pub left-most-of : (w : Stage State (Actor worker_set.Worker)) → Quiet w
+  pub left-most-of : (w : WorldState State (Actor worker_set.Worker)) → IsFileServer w
       → left w ≤ sum_to MAX_OPEN (turns_at longest w.machine (clients_in w)) + sum_to conns
       (turns_of_waiting longest w.machine)
   left-most-of w q =

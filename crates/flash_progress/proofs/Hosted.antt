@@ -17,7 +17,7 @@ use Rattle.iol_laws.specs.Order.{IsOrderly, Once}
 use Rattle.iol_laws.proofs.Streams.WaitingConn.{opened-conn}
 use Rattle.iol_proc.specs.Quiescence.{Quiesces}
 use Rattle.iol_proc.specs.Turns.{TransitionRelation, Comes, ProcessSlotTurn}
-use Rattle.iol_proc.specs.World.{Stage, WorldRun, WorldStep, copying}
+use Rattle.iol_proc.specs.World.{WorldState, WorldRun, WorldStep, copying}
 use Rattle.iol_proc.specs.declared.choice.Choice.{Choice}
 use Rattle.iol_proc.specs.declared.choice.Choice.TheVariants as choice
 use Rattle.iol_proc.specs.declared.process.Turn.{Turn}
@@ -89,9 +89,9 @@ module _ {P : Type 0} (turns : TransitionRelation P) where
   of-process_slot m n process_slot next yields r (inr moves) =
       of-turn m n process_slot.by moves.turn yields r moves.comes
 
-  of-step : (w after : Stage State P) (x : Choice) (r : Reply) → WorldStep copying turns w x r after
+  of-step : (w after : WorldState State P) (x : Choice) (r : Reply) → WorldStep copying turns w x r after
       → Moved w.machine after.machine
-  of-step w after (choice.Turn by) r (inl absent) = inl (ap (λ (v : Stage State P). v.machine) absent.stays)
+  of-step w after (choice.Turn by) r (inl absent) = inl (ap (λ (v : WorldState State P). v.machine) absent.stays)
   of-step w after (choice.Turn by) r (inr present) =
       of-process_slot w.machine after.machine present.turn.process_slot present.turn.next present.yields r
       present.turn.turn
@@ -99,9 +99,9 @@ module _ {P : Type 0} (turns : TransitionRelation P) where
 
   reads-run : (step : (s t : State) (e : Event) (r : Reply) → IsOrderly s → CanRead s → StepsTo s e r t
       → IsOrderly t × CanRead t)
-      → (xs : List Choice) (rs : List Reply) (w after : Stage State P) → IsOrderly w.machine → CanRead w.machine
+      → (xs : List Choice) (rs : List Reply) (w after : WorldState State P) → IsOrderly w.machine → CanRead w.machine
       → WorldRun copying turns w xs rs after → CanRead after.machine
-  reads-run step [] [] w after order reads run = subst (λ (v : Stage State P). CanRead v.machine) (sym run) reads
+  reads-run step [] [] w after order reads run = subst (λ (v : WorldState State P). CanRead v.machine) (sym run) reads
   reads-run step (x ∷ xs) (r ∷ rs) w after order reads run =
       let next : IsOrderly run.0.machine × CanRead run.0.machine = elim (of-step w run.0 x r run.1) [
         | inl same ↦ (subst IsOrderly (sym same) order, subst CanRead (sym same) reads)

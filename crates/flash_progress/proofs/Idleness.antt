@@ -11,7 +11,7 @@ use Rattle.iol_core.specs.declared.events.Reply.TheVariants as reply
 use Rattle.iol_core.specs.declared.refusals.Refusal.TheVariants.{WouldBlock}
 use Rattle.iol_proc.specs.Idle.{Went, RoundRun, counted, counted_over, is_idle}
 use Rattle.iol_proc.specs.Turns.{TransitionRelation, is_would_block}
-use Rattle.iol_proc.specs.World.{Stage, copying, PlaceTurn}
+use Rattle.iol_proc.specs.World.{WorldState, copying, PlaceTurn}
 use Rattle.flash_progress.proofs.Decrease.{Decreases, IdleComes}
 
 -- the maximum number of turns before a process has yielded twice, after this number of yields, if no turn has an effect
@@ -48,10 +48,10 @@ idle_two n = grind (arith, nat_tests)
 first_place : (i : ℕ) → i % 1 ≡ 0
 first_place i = omega arith
 
-module _ {P : Type 0} (turns : TransitionRelation P) (Holds : Stage State P → Type 0) (Allows : Reply
-    → Type 0) (left polls : Stage State P → ℕ) (round : ℕ)
+module _ {P : Type 0} (turns : TransitionRelation P) (Holds : WorldState State P → Type 0) (Allows : Reply
+    → Type 0) (left polls : WorldState State P → ℕ) (round : ℕ)
     (d : Decreases turns Holds Allows left polls round) where
-  abbrev bound : (n : ℕ) → Stage State P → ℕ
+  abbrev bound : (n : ℕ) → WorldState State P → ℕ
   bound n w = all_turns round (left w) n (polls w)
 
   -- no moment before the end of these turns was idle
@@ -59,7 +59,7 @@ module _ {P : Type 0} (turns : TransitionRelation P) (Holds : Stage State P → 
   NeverIdle n i ts = (j : ℕ) → j < length ts → is_idle (counted_over (n ∷ []) i (take j ts)) ≡ false
 
   -- a turn of a process slot is a turn of the only one
-  at_first : (w mid : Stage State P) (i : ℕ) (yields : Bool) (r : Reply) → Holds w
+  at_first : (w mid : WorldState State P) (i : ℕ) (yields : Bool) (r : Reply) → Holds w
       → PlaceTurn copying turns w (i % length w.process_slots) yields r mid
       → PlaceTurn copying turns w 0 yields r mid
   at_first w mid i yields r holds turn =
@@ -67,7 +67,8 @@ module _ {P : Type 0} (turns : TransitionRelation P) (Holds : Stage State P → 
       ∙ first_place i) turn
 
   -- each turn lowers the bound, as long as the process has not yielded twice
-  lowers : (w mid : Stage State P) (n : ℕ) (t : Went) → Holds w → PlaceTurn copying turns w 0 t.0 t.1 mid → Allows t.1
+  lowers : (w mid : WorldState State P) (n : ℕ) (t : Went) → Holds w → PlaceTurn copying turns w 0 t.0 t.1 mid
+      → Allows t.1
       → is_idle (n ∷ []) ≡ false → (k : ℕ) × (counted (n ∷ []) 0 t ≡ k ∷ []) × (bound k mid < bound n w)
   lowers w mid n (true, r) holds turn allowed busy = by n busy
     where
@@ -117,7 +118,7 @@ module _ {P : Type 0} (turns : TransitionRelation P) (Holds : Stage State P → 
           )
 
   -- so their number is bounded
-  few_turns : (ts : List Went) (n i : ℕ) (w after : Stage State P) → Holds w → RoundRun copying turns w i ts after
+  few_turns : (ts : List Went) (n i : ℕ) (w after : WorldState State P) → Holds w → RoundRun copying turns w i ts after
       → AllByRecursion (λ u. Allows u.1) ts
       → NeverIdle n i ts → length ts ≤ bound n w
   few_turns [] n i w after holds ran allowed never = omega arith
@@ -151,9 +152,10 @@ module _ {P : Type 0} (turns : TransitionRelation P) (Holds : Stage State P → 
           absurd (omega (arith, all, few, asked, split, enough_turns))
 
   -- The invariant holds at their end.
-  pub holds-after : (w after : Stage State P) (i : ℕ) (ts : List Went) → Holds w → RoundRun copying turns w i ts after
+  pub holds-after : (w after : WorldState State P) (i : ℕ) (ts : List Went) → Holds w
+      → RoundRun copying turns w i ts after
       → AllByRecursion (λ u. Allows u.1) ts → Holds after
-  holds-after w after i [] holds ran none = subst (λ (v : Stage State P). Holds v) (sym ran) holds
+  holds-after w after i [] holds ran none = subst (λ (v : WorldState State P). Holds v) (sym ran) holds
   holds-after w after i (t ∷ ts) holds ran none =
       holds-after ran.0 after (suc i) ts (d.keeps w ran.0 t.0 t.1 holds (at_first w ran.0 i t.0 t.1 holds ran.1) none.0)
       ran.2 none.1

@@ -14,7 +14,7 @@ use Rattle.iol_laws.specs.Labels.{ArrivalsLieInTheirPool}
 use Rattle.iol_laws.specs.Order.{IsOrderly, EachStepKeepsOrder}
 use Rattle.iol_proc.specs.Idle.{Idles, Went, rounds}
 use Rattle.iol_proc.specs.Quiescence.{Quiesces}
-use Rattle.iol_proc.specs.World.{Stage, copying, domains_of}
+use Rattle.iol_proc.specs.World.{WorldState, copying, domains_of}
 use Rattle.iol_proc.specs.declared.choice.Choice.{Choice}
 use Rattle.iol_proc.specs.declared.process_slot.ProcessSlot.{ProcessSlot}
 use Rattle.iol_proc.proofs.Quiescence.{quiescent_idle, each_quiescent}
@@ -42,7 +42,7 @@ use Rattle.flash_progress.proofs.TurnsLeft.{AreShort}
 use Rattle.flash_progress.proofs.Lengths.{are-short}
 use Rattle.flash_progress.proofs.Holders.{holds-new}
 use Rattle.flash_progress.proofs.Invariant.{MoreLaws, few-now, read-step}
-use Rattle.flash_progress.proofs.FileServer.{Allowed, Quiet, alone, file_server_becomes_idle, left, left-most-of}
+use Rattle.flash_progress.proofs.FileServer.{Allowed, IsFileServer, alone, file_server_becomes_idle, left, left-most-of}
 
 -- ---- arrivals can be read
 
@@ -90,7 +90,7 @@ module _ (worker_set : WorkerSet) (laws : AllLaws worker_set) (more : MoreLaws) 
   no-scripts site_contents m fixed none = fixed.scripts ∙ ap (λ (k : ℕ). runs_scripts k) none
 
   module _ (site_contents : SiteContents) (xs : List Choice) (rs : List Reply)
-      (w after : Stage State (Actor worker_set.Worker)) (most : ℕ) (idle : Bool)
+      (w after : WorldState State (Actor worker_set.Worker)) (most : ℕ) (idle : Bool)
       (has : RunsLongEnough worker_set site_contents xs rs w most idle after) where
     plain : site_contents.scripts ≡ false
     plain = no-scripts site_contents w.machine has.consistent.fixed has.files
@@ -98,9 +98,9 @@ module _ (worker_set : WorkerSet) (laws : AllLaws worker_set) (more : MoreLaws) 
     short : AreShort site_contents (longest_response w.machine)
     short = are-short site_contents w.machine has.consistent.fixed.site plain worker_set laws
 
-    quiet : Quiet site_contents worker_set laws more plain has.files (longest_response w.machine) short
+    is_file_server : IsFileServer site_contents worker_set laws more plain has.files (longest_response w.machine) short
         w.machine.next_conn w
-    quiet = record {
+    is_file_server = record {
       xs = xs;
       rs = rs;
       consistent = has.consistent;
@@ -113,7 +113,7 @@ module _ (worker_set : WorkerSet) (laws : AllLaws worker_set) (more : MoreLaws) 
         short w.machine.next_conn w) (MAX_OPEN + 2) ≤ most
     suffices =
         let less = left-most-of site_contents worker_set laws more plain has.files (longest_response w.machine) short
-        w.machine.next_conn w quiet in
+        w.machine.next_conn w is_file_server in
         let all = has.suffices in
         let product :
         (2 * (MAX_OPEN + 2) + 3) *
@@ -129,11 +129,11 @@ module _ (worker_set : WorkerSet) (laws : AllLaws worker_set) (more : MoreLaws) 
         one =
             ap (λ (l : List (ProcessSlot (Actor worker_set.Worker))). domains_of l)
             (alone site_contents worker_set laws more plain has.files (longest_response w.machine) short
-            w.machine.next_conn w quiet)
+            w.machine.next_conn w is_file_server)
 
     rests : idle ≡ true
     rests = file_server_becomes_idle site_contents worker_set laws more plain has.files (longest_response w.machine)
-        short w.machine.next_conn w after most idle quiet has.ends allowed suffices
+        short w.machine.next_conn w after most idle is_file_server has.ends allowed suffices
 
     abbrev choices : List Choice
     choices = rounds (domains_of w.process_slots) 0 (length has.ends.went)

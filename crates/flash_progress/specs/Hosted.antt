@@ -3,7 +3,7 @@ use Rattle.std.specs.Prelude.{◌≡◌, ◌≤◌, ℕ, Bool, List, ◌++◌, l
 use Rattle.iol_core.specs.State.{State}
 use Rattle.iol_core.specs.declared.events.Reply.{Reply}
 use Rattle.iol_proc.specs.Idle.{Idles, rounds}
-use Rattle.iol_proc.specs.World.{Stage, WorldRun, copying, domains_of}
+use Rattle.iol_proc.specs.World.{WorldState, WorldRun, copying, domains_of}
 use Rattle.iol_proc.specs.declared.choice.Choice.{Choice}
 use Rattle.flash_laws.specs.Serves.Rounds.{in_rounds}
 use Rattle.flash_laws.specs.SiteContents.{SiteContents}
@@ -20,8 +20,8 @@ module _ (worker_set : WorkerSet) where
   -- `most` suffices. None of them is refused for lack of table entries, pages or memory, or with a fault that the site
   -- contents do not permit.
   pub record HostsLongEnough (site_contents : SiteContents) (xs : List Choice) (rs : List Reply)
-      (w mid : Stage State (Actor worker_set.Worker)) (most : ℕ)
-      (idle : Bool) (after : Stage State (Actor worker_set.Worker)) : Type 0 where
+      (w mid : WorldState State (Actor worker_set.Worker)) (most : ℕ)
+      (idle : Bool) (after : WorldState State (Actor worker_set.Worker)) : Type 0 where
     pub files : worker_set.count ≡ 0
     pub new : IsNew site_contents worker_set w
     pub run : WorldRun copying (actor_turns in_rounds worker_set.turns) w xs rs mid
@@ -38,8 +38,8 @@ module _ (worker_set : WorkerSet) where
   abbrev pub HostedBecomesIdle : Type 0
   HostedBecomesIdle =
       (site_contents : SiteContents) (xs : List Choice) (rs : List Reply)
-      (w mid : Stage State (Actor worker_set.Worker)) (most : ℕ)
-      (idle : Bool) (after : Stage State (Actor worker_set.Worker))
+      (w mid : WorldState State (Actor worker_set.Worker)) (most : ℕ)
+      (idle : Bool) (after : WorldState State (Actor worker_set.Worker))
       → (has : HostsLongEnough site_contents xs rs w mid most idle after)
       → IsTrue idle
       × AreServed worker_set site_contents (xs ++ rounds (domains_of mid.process_slots) 0 (length has.ends.went))

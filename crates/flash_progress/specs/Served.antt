@@ -15,7 +15,7 @@ use Rattle.iol_laws.specs.Labels.{AreInOwnPool}
 use Rattle.iol_laws.specs.Order.{IsOrderly}
 use Rattle.iol_proc.specs.Idle.{Idles, Went, rounds}
 use Rattle.iol_proc.specs.ReadableBytes.{readable_to}
-use Rattle.iol_proc.specs.World.{Stage, copying, domains_of}
+use Rattle.iol_proc.specs.World.{WorldState, copying, domains_of}
 use Rattle.iol_proc.specs.declared.choice.Choice.{Choice}
 use Rattle.iol_proc.specs.declared.process_slot.ProcessSlot.{ProcessSlot}
 use Rattle.flash_laws.specs.Client.{Client}
@@ -53,7 +53,7 @@ abbrev pub clients_by : {W : Type 0} → State → List (ProcessSlot (Actor W)) 
 clients_by m [] = []
 clients_by {W = W} m (process_slot ∷ process_slots) = clients_of {W = W} m process_slot.last process_slot.process
 
-abbrev pub clients_in : {W : Type 0} → Stage State (Actor W) → List (Option Client)
+abbrev pub clients_in : {W : Type 0} → WorldState State (Actor W) → List (Option Client)
 clients_in {W = W} w = clients_by {W = W} w.machine w.process_slots
 
 -- each domain may read the pools of the connections that it has open
@@ -85,8 +85,8 @@ module _ (worker_set : WorkerSet) where
   -- as the site contents permit. None of them is refused for lack of table entries, pages or memory, or with a fault
   -- that the site contents do not permit, and `most` suffices for the state in which they begin.
   pub record RunsLongEnough (site_contents : SiteContents) (xs : List Choice) (rs : List Reply)
-      (w : Stage State (Actor worker_set.Worker)) (most : ℕ)
-      (idle : Bool) (after : Stage State (Actor worker_set.Worker)) : Type 0 where
+      (w : WorldState State (Actor worker_set.Worker)) (most : ℕ)
+      (idle : Bool) (after : WorldState State (Actor worker_set.Worker)) : Type 0 where
     pub files : worker_set.count ≡ 0
     pub consistent : Consistent site_contents worker_set xs rs w
     pub reads : CanRead w.machine
@@ -99,23 +99,25 @@ module _ (worker_set : WorkerSet) where
   -- All become idle.
   abbrev pub BecomesIdle : Type 0
   BecomesIdle =
-      (site_contents : SiteContents) (xs : List Choice) (rs : List Reply) (w : Stage State (Actor worker_set.Worker))
+      (site_contents : SiteContents) (xs : List Choice) (rs : List Reply)
+      (w : WorldState State (Actor worker_set.Worker))
       (most : ℕ)
-      (idle : Bool) (after : Stage State (Actor worker_set.Worker))
+      (idle : Bool) (after : WorldState State (Actor worker_set.Worker))
       → RunsLongEnough site_contents xs rs w most idle after → IsTrue idle
 
   -- The world has the invariant, and each connection of the net is served.
   pub record AreServed (site_contents : SiteContents) (xs : List Choice) (rs : List Reply)
-      (after : Stage State (Actor worker_set.Worker)) : Type 0 where
+      (after : WorldState State (Actor worker_set.Worker)) : Type 0 where
     pub consistent : Consistent site_contents worker_set xs rs after
     pub each : (c : ℕ) → IsTrue ((past_of xs rs).net c)
         → IsServed site_contents after.machine (past_of xs rs) consistent.in_slots.state.clients c
 
   abbrev pub ServesAll : Type 0
   ServesAll =
-      (site_contents : SiteContents) (xs : List Choice) (rs : List Reply) (w : Stage State (Actor worker_set.Worker))
+      (site_contents : SiteContents) (xs : List Choice) (rs : List Reply)
+      (w : WorldState State (Actor worker_set.Worker))
       (most : ℕ)
-      (idle : Bool) (after : Stage State (Actor worker_set.Worker))
+      (idle : Bool) (after : WorldState State (Actor worker_set.Worker))
       → (has : RunsLongEnough site_contents xs rs w most idle after)
       → AreServed site_contents (xs ++ rounds (domains_of w.process_slots) 0 (length has.ends.went))
       (rs ++ map (λ t. t.1) has.ends.went) after

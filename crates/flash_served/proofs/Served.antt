@@ -8,7 +8,7 @@ use Rattle.iol_core.specs.State.{State, Connection, conn_at, no_conn}
 use Rattle.iol_core.specs.declared.events.Event.TheVariants as event
 use Rattle.iol_core.specs.declared.events.Reply.{Reply}
 use Rattle.iol_proc.specs.Histories.{stream_over, sent_over}
-use Rattle.iol_proc.specs.World.{Stage, copying, WorldRun}
+use Rattle.iol_proc.specs.World.{WorldState, copying, WorldRun}
 use Rattle.iol_proc.specs.declared.choice.Choice.{Choice}
 use Rattle.iol_proc.specs.declared.choice.Choice.TheVariants as choice
 use Rattle.iol_serve.specs.Service.{AreOn, Proceeds, IsOn, hung_up}
@@ -28,7 +28,7 @@ use Rattle.flash_served.proofs.Histories.{stream-both, sent-both, after_reply-th
 -- ---- external events are site-preserving: no call comes from outside
 
 module _ (worker_set : WorkerSet) where
-  site_preserving-one : (c : ℕ) (x : Choice) (w after : Stage State (Actor worker_set.Worker)) → IsOn c x
+  site_preserving-one : (c : ℕ) (x : Choice) (w after : WorldState State (Actor worker_set.Worker)) → IsOn c x
       → IsSitePreserving w x after
   site_preserving-one c (choice.Outside (event.Call d k)) w after on = absurd on
   site_preserving-one c (choice.Outside (event.Arrive d bytes)) w after on = tt
@@ -37,7 +37,8 @@ module _ (worker_set : WorkerSet) where
   site_preserving-one c (choice.Outside e) w after on = absurd on
   site_preserving-one c (choice.Turn by) w after on = tt
 
-  all-site_preserving : (c : ℕ) (xs : List Choice) (rs : List Reply) (w after : Stage State (Actor worker_set.Worker))
+  all-site_preserving : (c : ℕ) (xs : List Choice) (rs : List Reply)
+      (w after : WorldState State (Actor worker_set.Worker))
       → (run : WorldRun copying (actor_turns in_rounds worker_set.turns) w xs rs after) → AreOn c xs
       → AreSitePreserving (actor_turns in_rounds worker_set.turns) w xs rs after run
   all-site_preserving c [] rs w after run on = tt
@@ -62,7 +63,7 @@ pub served_right : (worker_set : WorkerSet) → RunKeepsConsistency in_rounds wo
     → ConsistentIsWhole worker_set
     → (site_contents : SiteContents) (past : List Choice) (ps : List Reply) (c : ℕ) (ending : Ending)
     (came sent : List ℕ)
-    (w after : Stage State (Actor worker_set.Worker)) → Consistent site_contents worker_set past ps w
+    (w after : WorldState State (Actor worker_set.Worker)) → Consistent site_contents worker_set past ps w
     → IsFresh c past ps
     → (on : Proceeds (actor_turns in_rounds worker_set.turns) c came sent (hung_up ending) w after)
     → (ending ≡ Over → lacks_conn after.machine c ≡ true) → AreFair site_contents.refuses on.choices on.replies

@@ -8,7 +8,7 @@ use Rattle.iol_core.specs.declared.events.Event.TheVariants as event
 use Rattle.iol_core.specs.declared.events.Reply.{Reply}
 use Rattle.iol_core.specs.declared.events.Reply.TheVariants as reply
 use Rattle.iol_laws.specs.ConnNumbers.{ConnectionNumbersRise}
-use Rattle.iol_proc.specs.World.{Stage, copying, OutsideStep}
+use Rattle.iol_proc.specs.World.{WorldState, copying, OutsideStep}
 use Rattle.iol_proc.specs.declared.choice.Choice.{Choice}
 use Rattle.iol_proc.specs.declared.choice.Choice.TheVariants as choice
 use Rattle.iol_serve.specs.Service.{Serves, hung_up}
@@ -55,7 +55,7 @@ module _ (s : Site) (slots : List (List ℕ)) (keeps : RunKeepsConsistency in_ro
     site_contents = library_of s slots refuses
 
     -- a connection that was just made has no history
-    made-fresh : (past : List Choice) (ps : List Reply) (c : ℕ) (w mid : Stage State (Actor Worker))
+    made-fresh : (past : List Choice) (ps : List Reply) (c : ℕ) (w mid : WorldState State (Actor Worker))
         → Holds s slots refuses past ps w
         → OutsideStep copying (actor_turns in_rounds worker_turns) w (event.ConnNew net_pool) (reply.Conn c) mid
         → IsFresh c (past ++ choice.Outside (event.ConnNew net_pool) ∷ []) (ps ++ reply.Conn c ∷ [])
@@ -79,7 +79,7 @@ module _ (s : Site) (slots : List (List ℕ)) (keeps : RunKeepsConsistency in_ro
         and-self a = ap (λ b. b && (net_pool == net_pool)) (self a)
 
     -- one session
-    session-right : (past : List Choice) (ps : List Reply) (it : Session) (w after : Stage State (Actor Worker))
+    session-right : (past : List Choice) (ps : List Reply) (it : Session) (w after : WorldState State (Actor Worker))
         → Holds s slots refuses past ps w
         → (is : IsSession it w after) → AreFair refuses is.proceeds.choices is.proceeds.replies
         → Holds s slots refuses ((past ++ choice.Outside (event.ConnNew net_pool) ∷ []) ++ is.proceeds.choices)
@@ -95,7 +95,7 @@ module _ (s : Site) (slots : List (List ℕ)) (keeps : RunKeepsConsistency in_ro
     -- one more session before the others
     right-more : (past : List Choice) (ps : List Reply) (xs : List Choice) (rs : List Reply) (it : Session)
         (its : List Session)
-        (after : Stage State (Actor Worker)) → IsAnswered site_contents it.ending it.came it.sent
+        (after : WorldState State (Actor Worker)) → IsAnswered site_contents it.ending it.came it.sent
         → AreRight s slots refuses (past ++ xs) (ps ++ rs) its after
         → AreRight s slots refuses past ps (it ∷ its) after
     right-more past ps xs rs it its after first rest = record {
@@ -109,7 +109,7 @@ module _ (s : Site) (slots : List (List ℕ)) (keeps : RunKeepsConsistency in_ro
     }
 
     one-more : (past : List Choice) (ps : List Reply) (it : Session) (its : List Session)
-        (w mid after : Stage State (Actor Worker))
+        (w mid after : WorldState State (Actor Worker))
         → (is : IsSession it w mid) → IsAnswered site_contents it.ending it.came it.sent
         → AreRight s slots refuses ((past ++ choice.Outside (event.ConnNew net_pool) ∷ []) ++ is.proceeds.choices)
         ((ps ++ reply.Conn it.conn ∷ []) ++ is.proceeds.replies) its after
@@ -122,20 +122,21 @@ module _ (s : Site) (slots : List (List ℕ)) (keeps : RunKeepsConsistency in_ro
         (subst (λ (l : List Reply). AreRight s slots refuses ((past ++ choice.Outside (event.ConnNew net_pool) ∷ [])
         ++ is.proceeds.choices) l its after) (append_assoc ps (reply.Conn it.conn ∷ []) is.proceeds.replies) rest))
 
-    none-right : (past : List Choice) (ps : List Reply) (w after : Stage State (Actor Worker))
+    none-right : (past : List Choice) (ps : List Reply) (w after : WorldState State (Actor Worker))
         → Holds s slots refuses past ps w → after ≡ w
         → AreRight s slots refuses past ps [] after
     none-right past ps w after consistent same = record {
       answered = tt;
       choices = [];
       replies = [];
-      holds = subst (λ (v : Stage State (Actor Worker)). Holds s slots refuses (past ++ []) (ps ++ []) v) (sym same)
+      holds = subst (λ (v : WorldState State (Actor Worker)). Holds s slots refuses (past ++ []) (ps ++ []) v)
+          (sym same)
           (subst (λ (l : List Choice). Holds s slots refuses l (ps ++ []) w) (sym (append-nil past))
           (subst (λ (l : List Reply). Holds s slots refuses past l w) (sym (append-nil ps)) consistent));
     }
 
     pub fair-sessions : (past : List Choice) (ps : List Reply) (its : List Session)
-        (w after : Stage State (Actor Worker))
+        (w after : WorldState State (Actor Worker))
         → (sessions : AreSessions its w after) → Holds s slots refuses past ps w
         → AreFairSessions refuses its w after sessions
         → AreRight s slots refuses past ps its after
@@ -146,7 +147,7 @@ module _ (s : Site) (slots : List (List ℕ)) (keeps : RunKeepsConsistency in_ro
         (fair-sessions _ _ its sessions.0 after sessions.2 did.0 fair.1)
 
   -- the turns of each session are fair, if any refusal is allowed
-  any-fair : AnyIsFair → (its : List Session) (w after : Stage State (Actor Worker))
+  any-fair : AnyIsFair → (its : List Session) (w after : WorldState State (Actor Worker))
       → (sessions : AreSessions its w after)
       → AreFairSessions any_refusal its w after sessions
   any-fair fair [] w after sessions = tt
@@ -154,14 +155,14 @@ module _ (s : Site) (slots : List (List ℕ)) (keeps : RunKeepsConsistency in_ro
       (fair sessions.1.proceeds.choices sessions.1.proceeds.replies, any-fair fair its sessions.0 after sessions.2)
 
   pub any-sessions : AnyIsFair
-      → (past : List Choice) (ps : List Reply) (its : List Session) (w after : Stage State (Actor Worker))
+      → (past : List Choice) (ps : List Reply) (its : List Session) (w after : WorldState State (Actor Worker))
       → AreSessions its w after → Holds s slots any_refusal past ps w → AreRight s slots any_refusal past ps its after
   any-sessions fair past ps its w after sessions consistent =
       fair-sessions any_refusal past ps its w after sessions consistent (any-fair fair its w after sessions)
 
 -- a connection that is created and served
 pub serves_right : SessionsAreRight
-    → (n : ℕ) (ending : Ending) (left rest held now : Option (List ℕ)) (w begun after : Stage State (Actor Worker))
+    → (n : ℕ) (ending : Ending) (left rest held now : Option (List ℕ)) (w begun after : WorldState State (Actor Worker))
     → OutsideStep copying (actor_turns in_rounds worker_turns) w (event.ConnNew net_pool) (reply.Conn n) begun
     → Serves (actor_turns in_rounds worker_turns) n (hung_up ending) left rest held now begun after
     → (ending ≡ Over → lacks_conn after.machine n ≡ true) → ServesRight ending left rest held now w after
@@ -184,7 +185,7 @@ serves_right law n ending left rest held now w begun after made served over = re
 
 -- if no connection is created, the invariant is preserved
 pub serves_none : ((s : Site) → StepKeepsConsistency in_rounds (worker_set_of s))
-    → (r : Reply) (w after : Stage State (Actor Worker))
+    → (r : Reply) (w after : WorldState State (Actor Worker))
     → OutsideStep copying (actor_turns in_rounds worker_turns) w (event.ConnNew net_pool) r after → IsNoConn r
     → ServesNone w after
 serves_none keeps r w after step none = record {

@@ -9,7 +9,7 @@ use Rattle.iol_core.specs.declared.events.Event.TheVariants as event
 use Rattle.iol_core.specs.declared.events.Reply.{Reply}
 use Rattle.iol_core.specs.declared.events.Reply.TheVariants as reply
 use Rattle.iol_proc.specs.Histories.{stream_over, sent_over}
-use Rattle.iol_proc.specs.World.{OutsideStep, Stage, copying}
+use Rattle.iol_proc.specs.World.{OutsideStep, WorldState, copying}
 use Rattle.iol_proc.specs.declared.choice.Choice.{Choice}
 use Rattle.iol_proc.specs.declared.choice.Choice.TheVariants as choice
 use Rattle.iol_serve.specs.Service.{Proceeds, Serves, hung_up}
@@ -47,19 +47,20 @@ pub record Session : Type 0 where
   pub sent : List ℕ
 
 -- a connection is created in the net, and served
-pub record IsSession (it : Session) (w after : Stage State (Actor Worker)) : Type 0 where
-  pub begun : Stage State (Actor Worker)
+pub record IsSession (it : Session) (w after : WorldState State (Actor Worker)) : Type 0 where
+  pub begun : WorldState State (Actor Worker)
   pub made : OutsideStep copying (actor_turns in_rounds worker_turns) w (event.ConnNew net_pool) (reply.Conn it.conn)
       begun
   pub proceeds : Proceeds (actor_turns in_rounds worker_turns) it.conn it.came it.sent (hung_up it.ending) begun after
   pub over : it.ending ≡ Over → IsTrue (lacks_conn after.machine it.conn)
 
-abbrev pub AreSessions : List Session → (w after : Stage State (Actor Worker)) → Type 0
+abbrev pub AreSessions : List Session → (w after : WorldState State (Actor Worker)) → Type 0
 AreSessions [] w after = after ≡ w
-AreSessions (it ∷ more) w after = (mid : Stage State (Actor Worker)) × IsSession it w mid × AreSessions more mid after
+AreSessions (it ∷ more) w after = (mid : WorldState State (Actor Worker)) × IsSession it w mid
+    × AreSessions more mid after
 
 -- the turns of each are fair if these refusals are allowed
-abbrev pub AreFairSessions : (refuses : Refusals) → (its : List Session) → (w after : Stage State (Actor Worker))
+abbrev pub AreFairSessions : (refuses : Refusals) → (its : List Session) → (w after : WorldState State (Actor Worker))
     → AreSessions its w after → Type 0
 AreFairSessions refuses [] w after is = ⊤
 AreFairSessions refuses (it ∷ more) w after is = AreFair refuses is.1.proceeds.choices is.1.proceeds.replies
@@ -67,13 +68,13 @@ AreFairSessions refuses (it ∷ more) w after is = AreFair refuses is.1.proceeds
 
 module _ (s : Site) (slots : List (List ℕ)) where
   -- The server's invariant, if these refusals are allowed.
-  abbrev pub Holds : (refuses : Refusals) → List Choice → List Reply → Stage State (Actor Worker) → Type 0
+  abbrev pub Holds : (refuses : Refusals) → List Choice → List Reply → WorldState State (Actor Worker) → Type 0
   Holds refuses past ps w = Consistent (library_of s slots refuses) (worker_set_of s) past ps w
 
   -- ---- one connection
 
   module _ (past : List Choice) (ps : List Reply) (c : ℕ) (ending : Ending) (left rest held now : Option (List ℕ))
-      (w after : Stage State (Actor Worker))
+      (w after : WorldState State (Actor Worker))
       (served : Serves (actor_turns in_rounds worker_turns) c (hung_up ending) left rest held now w after) where
     -- the invariant holds afterwards, and the output is right
     abbrev pub IsRight : (refuses : Refusals) → Type 0
@@ -94,14 +95,14 @@ module _ (s : Site) (slots : List (List ℕ)) where
 
   -- the output to each is right, and the invariant holds afterwards
   pub record AreRight (refuses : Refusals) (past : List Choice) (ps : List Reply) (its : List Session)
-      (after : Stage State (Actor Worker)) : Type 0 where
+      (after : WorldState State (Actor Worker)) : Type 0 where
     pub answered : AllByRecursion (λ it. IsAnswered (library_of s slots refuses) it.ending it.came it.sent) its
     pub choices : List Choice
     pub replies : List Reply
     pub holds : Holds refuses (past ++ choices) (ps ++ replies) after
 
   pub record AreServedRight (past : List Choice) (ps : List Reply) (its : List Session)
-      (w after : Stage State (Actor Worker))
+      (w after : WorldState State (Actor Worker))
       (sessions : AreSessions its w after) : Type 0 where
     pub fair : (refuses : Refusals) → Holds refuses past ps w → AreFairSessions refuses its w after sessions
         → AreRight refuses past ps its after
@@ -110,7 +111,7 @@ module _ (s : Site) (slots : List (List ℕ)) where
 -- A connection without history is served, and is removed if its ending is `Over`. Then it is served right.
 abbrev pub ServedIsRight : Type 0
 ServedIsRight = (s : Site) (slots : List (List ℕ)) (past : List Choice) (ps : List Reply) (c : ℕ) (ending : Ending)
-    (left rest held now : Option (List ℕ)) (w after : Stage State (Actor Worker)) → IsFresh c past ps
+    (left rest held now : Option (List ℕ)) (w after : WorldState State (Actor Worker)) → IsFresh c past ps
     → (served : Serves (actor_turns in_rounds worker_turns) c (hung_up ending) left rest held now w after)
     → (ending ≡ Over → IsTrue (lacks_conn after.machine c))
     → IsServedRight s slots past ps c ending left rest held now w after served
@@ -118,7 +119,8 @@ ServedIsRight = (s : Site) (slots : List (List ℕ)) (past : List Choice) (ps : 
 -- A connection is created in the net and served, from a reader and to a writer, with this ending: the bytes received
 -- are those that the reader supplies, and the bytes sent those that the writer accepts. Then it is served right, for
 -- every site and history.
-pub record ServesRight (ending : Ending) (left rest held now : Option (List ℕ)) (w after : Stage State (Actor Worker)) :
+pub record ServesRight (ending : Ending) (left rest held now : Option (List ℕ))
+    (w after : WorldState State (Actor Worker)) :
     Type 0 where
   pub session : Session
   pub ends : session.ending ≡ ending
@@ -139,7 +141,7 @@ abbrev pub IsNoConn : Reply → Type 0
 IsNoConn r = (c : ℕ) → r ≢ reply.Conn c
 
 -- No connection is created: the world satisfies the invariant afterwards, if it did before, for every site and history.
-pub record ServesNone (w after : Stage State (Actor Worker)) : Type 0 where
+pub record ServesNone (w after : WorldState State (Actor Worker)) : Type 0 where
   pub reply : Reply
   pub refused : OutsideStep copying (actor_turns in_rounds worker_turns) w (event.ConnNew net_pool) reply after
   pub none : IsNoConn reply
@@ -150,5 +152,5 @@ pub record ServesNone (w after : Stage State (Actor Worker)) : Type 0 where
 -- Connections that are created in the net and served, one after another, are served right.
 abbrev pub SessionsAreRight : Type 0
 SessionsAreRight = (s : Site) (slots : List (List ℕ)) (past : List Choice) (ps : List Reply) (its : List Session)
-    (w after : Stage State (Actor Worker)) → (sessions : AreSessions its w after)
+    (w after : WorldState State (Actor Worker)) → (sessions : AreSessions its w after)
     → AreServedRight s slots past ps its w after sessions

@@ -3,7 +3,7 @@ use Rattle.std.specs.Prelude.{ℕ, Bool, List, [], IsTrue}
 use Rattle.iol_back.specs.Disk.{Disk}
 use Rattle.iol_core.specs.declared.configuration.TheConstants.Config.{DEFAULT}
 use Rattle.iol_core.specs.declared.events.Reply.{Reply}
-use Rattle.iol_proc.specs.World.{Stage}
+use Rattle.iol_proc.specs.World.{WorldState}
 use Rattle.iol_system.specs.Machine.{SystemState}
 use Rattle.flash_cgi.specs.declared.worker.Worker.{Worker}
 use Rattle.flash_laws.specs.World.Consistency.{Actor}
@@ -14,7 +14,8 @@ use Rattle.flash_lite.specs.declared.site.Site.{Site}
 -- The world of a site of these files over a store, before its first turn: it was set up in a new system with the
 -- default parameters, without any other event. Over an honest store it is the site's world in the copying machine, to
 -- which the server's laws apply.
-pub record IsWorldOf (names : List (List ℕ)) (store : Disk) (world : Stage SystemState (Actor Worker)) : Type 0 where
+pub record IsWorldOf (names : List (List ℕ)) (store : Disk) (world : WorldState SystemState (Actor Worker)) :
+    Type 0 where
   pub site : Site
   pub files : AreFilesOf names site.files.items
   pub replies : List Reply
@@ -23,15 +24,15 @@ pub record IsWorldOf (names : List (List ℕ)) (store : Disk) (world : Stage Sys
   pub honest : HostsIfHonest store site [] replies 0 idle world
 
 -- A world of some site over some store, before its first turn.
-pub record IsSiteWorld (world : Stage SystemState (Actor Worker)) : Type 0 where
+pub record IsSiteWorld (world : WorldState SystemState (Actor Worker)) : Type 0 where
   pub names : List (List ℕ)
   pub store : Disk
   pub is : IsWorldOf names store world
 
-abbrev pub BeginsSite : (world : Stage SystemState (Actor Worker)) → Type 0
+abbrev pub BeginsSite : (world : WorldState SystemState (Actor Worker)) → Type 0
 BeginsSite world = ∥ IsSiteWorld world ∥₁
 
 -- The same over an honest store, if the site is to be in memory.
-pub record BeginsSiteIn (in_memory : Bool) (world : Stage SystemState (Actor Worker)) : Type 0 where
+pub record BeginsSiteIn (in_memory : Bool) (world : WorldState SystemState (Actor Worker)) : Type 0 where
   pub site : BeginsSite world
   pub honest : IsTrue in_memory → IsTrue world.machine.disk.honest

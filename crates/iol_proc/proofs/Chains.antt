@@ -9,7 +9,7 @@ use Rattle.iol_system.proofs.Chains.{chain_honest}
 use Rattle.iol_proc.specs.Histories.{RunsAs}
 use Rattle.iol_proc.specs.Laws.{HasEvents, KeepsHonesty}
 use Rattle.iol_proc.specs.Turns.{TransitionRelation, Comes, ProcessSlotTurn}
-use Rattle.iol_proc.specs.World.{Stage, sharing, DomainTurn, OutsideStep, TurnAt, WorldStep, WorldRun}
+use Rattle.iol_proc.specs.World.{WorldState, sharing, DomainTurn, OutsideStep, TurnAt, WorldStep, WorldRun}
 use Rattle.iol_proc.specs.declared.activity.Activity.{Activity}
 use Rattle.iol_proc.specs.declared.choice.Choice.{Choice}
 use Rattle.iol_proc.specs.declared.choice.Choice.TheVariants as choice
@@ -54,33 +54,35 @@ module _ {P : Type 0} (turns : TransitionRelation P) where
             comes_chained m process_slot.by v.turn yields r after v.comes
       ]
 
-  pub turn_at_chained : (w : Stage SystemState P) (place : ℕ) (a : Option Activity) (after : Stage SystemState P)
+  pub turn_at_chained : (w : WorldState SystemState P) (place : ℕ) (a : Option Activity)
+      (after : WorldState SystemState P)
       → TurnAt sharing turns w place a after → HasEvents w.machine after.machine
   turn_at_chained w place None after t =
-      nothing w.machine after.machine (ap (λ (v : Stage SystemState P). v.machine) t.1)
+      nothing w.machine after.machine (ap (λ (v : WorldState SystemState P). v.machine) t.1)
   turn_at_chained w place (Some a) after t =
       process_slot_chained w.machine t.2.process_slot t.0 t.1 after.machine t.2.next t.2.turn
 
-  domain_chained : (w : Stage SystemState P) (by : ℕ) (r : Reply) (after : Stage SystemState P)
+  domain_chained : (w : WorldState SystemState P) (by : ℕ) (r : Reply) (after : WorldState SystemState P)
       → DomainTurn sharing turns w by r after → HasEvents w.machine after.machine
   domain_chained w by r after t =
       elim t [
-        | inl a ↦ nothing w.machine after.machine (ap (λ (v : Stage SystemState P). v.machine) a.stays)
+        | inl a ↦ nothing w.machine after.machine (ap (λ (v : WorldState SystemState P). v.machine) a.stays)
         | inr p ↦ process_slot_chained w.machine p.turn.process_slot p.yields r after.machine p.turn.next p.turn.turn
       ]
 
-  pub outside_chained : (w : Stage SystemState P) (e : Event) (r : Reply) (after : Stage SystemState P)
+  pub outside_chained : (w : WorldState SystemState P) (e : Event) (r : Reply) (after : WorldState SystemState P)
       → OutsideStep sharing turns w e r after → HasEvents w.machine after.machine
   outside_chained w e r after o = record { events = e ∷ []; replies = r ∷ []; chain = (after.machine, o.step, refl) }
 
-  step_chained : (w : Stage SystemState P) (c : Choice) (r : Reply) (after : Stage SystemState P)
+  step_chained : (w : WorldState SystemState P) (c : Choice) (r : Reply) (after : WorldState SystemState P)
       → WorldStep sharing turns w c r after → HasEvents w.machine after.machine
   step_chained w (choice.Turn by) r after step = domain_chained w by r after step
   step_chained w (choice.Outside e) r after step = outside_chained w e r after step
 
-  pub run_chained : (w : Stage SystemState P) (cs : List Choice) (rs : List Reply) (after : Stage SystemState P)
+  pub run_chained : (w : WorldState SystemState P) (cs : List Choice) (rs : List Reply)
+      (after : WorldState SystemState P)
       → WorldRun sharing turns w cs rs after → HasEvents w.machine after.machine
-  run_chained w [] [] after ran = nothing w.machine after.machine (ap (λ (v : Stage SystemState P). v.machine) ran)
+  run_chained w [] [] after ran = nothing w.machine after.machine (ap (λ (v : WorldState SystemState P). v.machine) ran)
   run_chained w (c ∷ cs) (r ∷ rs) after ran =
       both w.machine ran.0.machine after.machine (step_chained w c r ran.0 ran.1) (run_chained ran.0 cs rs after ran.2)
   run_chained w [] (r ∷ rs) after ran = absurd ran
@@ -100,6 +102,6 @@ chain_step : (old mid new : SystemState) (e : Event) (r : Reply) (es : List Even
 chain_step old mid new e r es rs step rest = (mid, step, rest)
 
 module _ {P : Type 0} (turns : TransitionRelation P) where
-  pub system_as : (w after : Stage SystemState P) (xs : List Choice) (rs : List Reply)
+  pub system_as : (w after : WorldState SystemState P) (xs : List Choice) (rs : List Reply)
       → WorldRun sharing turns w xs rs after → RunsAs Chain w.machine xs rs after.machine
   system_as w after xs rs ran = run_as sharing turns Chain chain_none chain_step w after xs rs ran

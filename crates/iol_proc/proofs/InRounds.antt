@@ -9,19 +9,19 @@ use Rattle.std.proofs.Math.Seq.{map-set_same}
 use Rattle.std.proofs.lemmas.Option.{get_or_from_slice_get}
 use Rattle.iol_core.specs.declared.events.Reply.{Reply}
 use Rattle.iol_proc.specs.Turns.{Machine, TransitionRelation, ProcessSlotTurn}
-use Rattle.iol_proc.specs.World.{Stage, domains_of, PlaceTurn, WorldRun}
+use Rattle.iol_proc.specs.World.{WorldState, domains_of, PlaceTurn, WorldRun}
 use Rattle.iol_proc.specs.Idle.{Went, RoundRun, counted, counted_over, yields_of, is_idle, rounds}
 use Rattle.iol_proc.specs.declared.process_slot.ProcessSlot.{ProcessSlot}
 
 module _ {M P : Type 0} (machine : Machine M) (turns : TransitionRelation P) where
   -- one turn more
-  round_more : (w : Stage M P) (i : ℕ) (ts : List Went) (mid : Stage M P) (t : Went) (after : Stage M P)
+  round_more : (w : WorldState M P) (i : ℕ) (ts : List Went) (mid : WorldState M P) (t : Went) (after : WorldState M P)
       → RoundRun machine turns w i ts mid
       → PlaceTurn machine turns mid ((i + length ts) % length mid.process_slots) t.0 t.1 after
       → RoundRun machine turns w i (ts ++ t ∷ []) after
   round_more w i [] mid t after ran turn = (
     after,
-    subst (λ (v : Stage M P). PlaceTurn machine turns v (i % length v.process_slots) t.0 t.1 after) ran
+    subst (λ (v : WorldState M P). PlaceTurn machine turns v (i % length v.process_slots) t.0 t.1 after) ran
         (rw add-zero at turn),
     refl,
   )
@@ -34,7 +34,8 @@ module _ {M P : Type 0} (machine : Machine M) (turns : TransitionRelation P) whe
       )
 
   -- the same from the first turn on
-  pub round_next : (w : Stage M P) (ts : List Went) (mid : Stage M P) (t : Went) (after : Stage M P) (i k : ℕ)
+  pub round_next : (w : WorldState M P) (ts : List Went) (mid : WorldState M P) (t : Went) (after : WorldState M P)
+      (i k : ℕ)
       → RoundRun machine turns w 0 ts mid → length ts ≡ i → k ≡ length mid.process_slots
       → PlaceTurn machine turns mid (i % k) t.0 t.1 after → RoundRun machine turns w 0 (ts ++ t ∷ []) after
   round_next w ts mid t after i k ran count size turn =
@@ -47,7 +48,7 @@ module _ {M P : Type 0} (machine : Machine M) (turns : TransitionRelation P) whe
   same_domain m process_slot yields r after next turn =
       elim turn [ inl s ↦ ap (λ (v : ProcessSlot P). v.by) s.process_slot_stays | inr v ↦ v.domain_stays ]
 
-  same_domains : (w : Stage M P) (place : ℕ) (yields : Bool) (r : Reply) (after : Stage M P)
+  same_domains : (w : WorldState M P) (place : ℕ) (yields : Bool) (r : Reply) (after : WorldState M P)
       → PlaceTurn machine turns w place yields r after → domains_of after.process_slots ≡ domains_of w.process_slots
   same_domains w place yields r after t =
       ap domains_of t.others_stay
@@ -65,7 +66,8 @@ module _ {M P : Type 0} (machine : Machine M) (turns : TransitionRelation P) whe
   place_domain (y ∷ ys) (suc k) x e = place_domain ys k x e
 
   -- turns in rounds are a run of turns
-  pub rounds_run : (w : Stage M P) (i : ℕ) (ts : List Went) (after : Stage M P) → RoundRun machine turns w i ts after
+  pub rounds_run : (w : WorldState M P) (i : ℕ) (ts : List Went) (after : WorldState M P)
+      → RoundRun machine turns w i ts after
       → WorldRun machine turns w (rounds (domains_of w.process_slots) i (length ts)) (map (λ t. t.1) ts) after
   rounds_run w i [] after ran = ran
   rounds_run w i (t ∷ ts) after ran =

@@ -4,7 +4,7 @@ use Rattle.iol_core.specs.declared.events.Event.{Event}
 use Rattle.iol_core.specs.declared.events.Reply.{Reply}
 use Rattle.iol_system.specs.Machine.{SystemState, machine_of}
 use Rattle.iol_proc.specs.Turns.{TransitionRelation, Comes, Starves, ProcessSlotTurn}
-use Rattle.iol_proc.specs.World.{Stage, copying, sharing, copied, PlaceTurn, DomainTurn, OutsideStep, WorldStep}
+use Rattle.iol_proc.specs.World.{WorldState, copying, sharing, copied, PlaceTurn, DomainTurn, OutsideStep, WorldStep}
 use Rattle.iol_proc.specs.World.{TurnAt, WorldRun}
 use Rattle.iol_proc.specs.Idle.{Went, RoundRun, Idles}
 use Rattle.iol_proc.specs.declared.activity.Activity.{Activity}
@@ -64,7 +64,8 @@ module _ {P : Type 0} (turns : TransitionRelation P) where
             )
       ]
 
-  pub place_copied : (w : Stage SystemState P) (place : ℕ) (yields : Bool) (r : Reply) (after : Stage SystemState P)
+  pub place_copied : (w : WorldState SystemState P) (place : ℕ) (yields : Bool) (r : Reply)
+      (after : WorldState SystemState P)
       → IsHonest w.machine → PlaceTurn sharing turns w place yields r after
       → Both after.machine (PlaceTurn copying turns (copied w) place yields r (copied after))
   place_copied w place yields r after honest t =
@@ -80,7 +81,8 @@ module _ {P : Type 0} (turns : TransitionRelation P) where
         both.1,
       )
 
-  pub turn_at_copied : (w : Stage SystemState P) (place : ℕ) (a : Option Activity) (after : Stage SystemState P)
+  pub turn_at_copied : (w : WorldState SystemState P) (place : ℕ) (a : Option Activity)
+      (after : WorldState SystemState P)
       → IsHonest w.machine → TurnAt sharing turns w place a after
       → TurnAt copying turns (copied w) place a (copied after)
   unfolding place_copied
@@ -88,7 +90,8 @@ module _ {P : Type 0} (turns : TransitionRelation P) where
   turn_at_copied w place (Some a) after honest t =
       (t.0, t.1, (place_copied w place t.0 t.1 after honest t.2).0, t.3)
 
-  domain_copied : (w : Stage SystemState P) (by : ℕ) (r : Reply) (after : Stage SystemState P) → IsHonest w.machine
+  domain_copied : (w : WorldState SystemState P) (by : ℕ) (r : Reply) (after : WorldState SystemState P)
+      → IsHonest w.machine
       → DomainTurn sharing turns w by r after
       → Both after.machine (DomainTurn copying turns (copied w) by r (copied after))
   unfolding place_copied
@@ -96,14 +99,14 @@ module _ {P : Type 0} (turns : TransitionRelation P) where
       elim t [
         | inl a ↦ (
           inl (record { nobody = a.nobody; answer = a.answer; stays = ap copied a.stays }),
-          subst (λ (v : Stage SystemState P). IsHonest v.machine) (sym a.stays) honest,
+          subst (λ (v : WorldState SystemState P). IsHonest v.machine) (sym a.stays) honest,
         )
         | inr p ↦
             let both = place_copied w p.place p.yields r after honest p.turn in
             (inr (record { place = p.place; yields = p.yields; turn = both.0; domain = p.domain }), both.1)
       ]
 
-  pub outside_copied : (w : Stage SystemState P) (e : Event) (r : Reply) (after : Stage SystemState P)
+  pub outside_copied : (w : WorldState SystemState P) (e : Event) (r : Reply) (after : WorldState SystemState P)
       → IsHonest w.machine → OutsideStep sharing turns w e r after
       → Both after.machine (OutsideStep copying turns (copied w) e r (copied after))
   outside_copied w e r after honest o = (
@@ -116,12 +119,14 @@ module _ {P : Type 0} (turns : TransitionRelation P) where
     o.step.honest ∙ honest,
   )
 
-  step_copied : (w : Stage SystemState P) (c : Choice) (r : Reply) (after : Stage SystemState P) → IsHonest w.machine
+  step_copied : (w : WorldState SystemState P) (c : Choice) (r : Reply) (after : WorldState SystemState P)
+      → IsHonest w.machine
       → WorldStep sharing turns w c r after → Both after.machine (WorldStep copying turns (copied w) c r (copied after))
   step_copied w (choice.Turn by) r after honest step = domain_copied w by r after honest step
   step_copied w (choice.Outside e) r after honest step = outside_copied w e r after honest step
 
-  pub run_copied : (w : Stage SystemState P) (cs : List Choice) (rs : List Reply) (after : Stage SystemState P)
+  pub run_copied : (w : WorldState SystemState P) (cs : List Choice) (rs : List Reply)
+      (after : WorldState SystemState P)
       → IsHonest w.machine → WorldRun sharing turns w cs rs after
       → WorldRun copying turns (copied w) cs rs (copied after)
   run_copied w [] [] after honest ran = ap copied ran
@@ -131,14 +136,15 @@ module _ {P : Type 0} (turns : TransitionRelation P) where
   run_copied w [] (r ∷ rs) after honest ran = absurd ran
   run_copied w (c ∷ cs) [] after honest ran = absurd ran
 
-  rounds_copied : (w : Stage SystemState P) (i : ℕ) (ts : List Went) (after : Stage SystemState P) → IsHonest w.machine
+  rounds_copied : (w : WorldState SystemState P) (i : ℕ) (ts : List Went) (after : WorldState SystemState P)
+      → IsHonest w.machine
       → RoundRun sharing turns w i ts after → RoundRun copying turns (copied w) i ts (copied after)
   rounds_copied w i [] after honest ran = ap copied ran
   rounds_copied w i (t ∷ ts) after honest ran =
       let both = place_copied w _ t.0 t.1 ran.0 honest ran.1 in
       (copied ran.0, both.0, rounds_copied ran.0 _ ts after both.1 ran.2)
 
-  pub idles_copied : (w : Stage SystemState P) (most : ℕ) (idle : Bool) (after : Stage SystemState P)
+  pub idles_copied : (w : WorldState SystemState P) (most : ℕ) (idle : Bool) (after : WorldState SystemState P)
       → IsHonest w.machine → Idles sharing turns w most idle after
       → Idles copying turns (copied w) most idle (copied after)
   idles_copied w most idle after honest i = record {

@@ -12,7 +12,7 @@ use Rattle.iol_proc.specs.Idle.{Went, RoundRun, more_of_two, counted, counted_ov
 use Rattle.iol_proc.specs.ReadableBytes.{readable_to}
 use Rattle.iol_proc.specs.Quiescence.{Claim, AreQuiescent, AllQuiescent, Quiesces}
 use Rattle.iol_proc.specs.Turns.{TransitionRelation, Comes, ProcessSlotTurn}
-use Rattle.iol_proc.specs.World.{Stage, PlaceTurn, copying}
+use Rattle.iol_proc.specs.World.{WorldState, PlaceTurn, copying}
 use Rattle.iol_proc.specs.declared.process.Turn.{Turn}
 use Rattle.iol_proc.specs.declared.process.Turn.TheVariants as turn
 use Rattle.iol_proc.specs.declared.process_slot.ProcessSlot.{ProcessSlot}
@@ -115,7 +115,7 @@ module _ {P : Type 0} (S : Claim P) (turns : TransitionRelation P) where
       ]
 
   quiescent_turn : Quiesces S turns
-      → (ns : List ℕ) (w : Stage State P) (k : ℕ) (yields : Bool) (r : Reply) (after : Stage State P)
+      → (ns : List ℕ) (w : WorldState State P) (k : ℕ) (yields : Bool) (r : Reply) (after : WorldState State P)
       → AreQuiescent S ns w.process_slots w.machine → PlaceTurn copying turns w k yields r after
       → AreQuiescent S (counted ns k (yields, r)) after.process_slots after.machine
   quiescent_turn f ns w k true r after h t =
@@ -140,11 +140,11 @@ module _ {P : Type 0} (S : Claim P) (turns : TransitionRelation P) where
 
   -- after turns in rounds each process is settled as often as it was counted
   pub quiescent_over : Quiesces S turns
-      → (ns : List ℕ) (w : Stage State P) (i : ℕ) (ts : List Went) (after : Stage State P)
+      → (ns : List ℕ) (w : WorldState State P) (i : ℕ) (ts : List Went) (after : WorldState State P)
       → AreQuiescent S ns w.process_slots w.machine → RoundRun copying turns w i ts after
       → AreQuiescent S (counted_over ns i ts) after.process_slots after.machine
   quiescent_over f ns w i [] after h ran =
-      subst (λ (v : Stage State P). AreQuiescent S ns v.process_slots v.machine) (sym ran) h
+      subst (λ (v : WorldState State P). AreQuiescent S ns v.process_slots v.machine) (sym ran) h
   quiescent_over f ns w i (t ∷ ts) after h ran =
       quiescent_over f (counted ns (i % length ns) t) ran.0 (suc i) ts after
       (quiescent_turn f ns w (i % length ns) t.0 t.1 ran.0 h
@@ -168,7 +168,7 @@ module _ {P : Type 0} (S : Claim P) (turns : TransitionRelation P) where
   first_zeros f (s ∷ ss) m = (omega arith, f.first s.by s.process s.last m, first_zeros f ss m)
 
   -- where `until_idle` says true, each process is settled
-  pub quiescent_idle : Quiesces S turns → (w : Stage State P) (most : ℕ) (after : Stage State P)
+  pub quiescent_idle : Quiesces S turns → (w : WorldState State P) (most : ℕ) (after : WorldState State P)
       → Idles copying turns w most true after → AllQuiescent S after.process_slots after.machine
   quiescent_idle f w most after i =
       all_quiescent (yields_of (length w.process_slots) i.went) after.process_slots after.machine
@@ -184,7 +184,7 @@ module _ {P : Type 0} (S : Claim P) (turns : TransitionRelation P) where
   one_quiescent (s ∷ ss) m (suc k) process_slot h e = one_quiescent ss m k process_slot h.1 e
 
   pub each_quiescent : Quiesces S turns
-      → (w : Stage State P) (most place : ℕ) (after : Stage State P) (process_slot : ProcessSlot P)
+      → (w : WorldState State P) (most place : ℕ) (after : WorldState State P) (process_slot : ProcessSlot P)
       → Idles copying turns w most true after → slice_get after.process_slots place ≡ Some process_slot
       → S 2 process_slot.by process_slot.process process_slot.last after.machine
   each_quiescent f w most place after process_slot i e =

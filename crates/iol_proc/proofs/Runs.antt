@@ -5,7 +5,7 @@ use Rattle.std.proofs.lemmas.List.{length-map, take_more}
 use Rattle.std.proofs.Math.Seq.{map-set_same}
 use Rattle.iol_core.specs.declared.events.Reply.{Reply}
 use Rattle.iol_proc.specs.Turns.{Machine, TransitionRelation}
-use Rattle.iol_proc.specs.World.{Stage, domains_of, IsInSlots, WorldStep, WorldRun}
+use Rattle.iol_proc.specs.World.{WorldState, domains_of, IsInSlots, WorldStep, WorldRun}
 use Rattle.iol_proc.specs.declared.choice.Choice.{Choice}
 use Rattle.iol_proc.specs.declared.process_slot.ProcessSlot.{ProcessSlot}
 
@@ -24,18 +24,20 @@ same_length xs ys e = sym (length-map xs (λ s. s.by)) ∙ (ap length e ∙ leng
 
 module _ {M P : Type 0} (machine : Machine M) (turns : TransitionRelation P) where
   -- one step more
-  pub run_more : (w : Stage M P) (cs : List Choice) (rs : List Reply) (mid : Stage M P) (c : Choice) (r : Reply)
-      (after : Stage M P) → WorldRun machine turns w cs rs mid → WorldStep machine turns mid c r after
+  pub run_more : (w : WorldState M P) (cs : List Choice) (rs : List Reply) (mid : WorldState M P) (c : Choice)
+      (r : Reply)
+      (after : WorldState M P) → WorldRun machine turns w cs rs mid → WorldStep machine turns mid c r after
       → WorldRun machine turns w (cs ++ c ∷ []) (rs ++ r ∷ []) after
   run_more w [] [] mid c r after ran step =
-      (after, subst (λ (v : Stage M P). WorldStep machine turns v c r after) ran step, refl)
+      (after, subst (λ (v : WorldState M P). WorldStep machine turns v c r after) ran step, refl)
   run_more w (d ∷ ds) (s ∷ ss) mid c r after ran step = (ran.0, ran.1, run_more ran.0 ds ss mid c r after ran.2 step)
   run_more w [] (s ∷ ss) mid c r after ran step = absurd ran
   run_more w (d ∷ ds) [] mid c r after ran step = absurd ran
 
   -- the same of the choices up to a place
-  pub run_at : (w : Stage M P) (cs : List Choice) (i : ℕ) (rs : List Reply) (mid : Stage M P) (c : Choice) (r : Reply)
-      (after : Stage M P) → i < length cs → c ≡ get_or cs i c → WorldRun machine turns w (take i cs) rs mid
+  pub run_at : (w : WorldState M P) (cs : List Choice) (i : ℕ) (rs : List Reply) (mid : WorldState M P) (c : Choice)
+      (r : Reply)
+      (after : WorldState M P) → i < length cs → c ≡ get_or cs i c → WorldRun machine turns w (take i cs) rs mid
       → WorldStep machine turns mid c r after → WorldRun machine turns w (take (i + 1) cs) (rs ++ r ∷ []) after
   run_at w cs i rs mid c r after lt is ran step =
       rw (take_more cs i c lt)

@@ -19,7 +19,7 @@ use Rattle.iol_system.specs.Machine.{SystemState, machine_of, tables_of}
 use Rattle.iol_system.specs.Streams.{Comes}
 use Rattle.iol_proc.specs.Streams.{ArrivesAs, SendsAs}
 use Rattle.iol_proc.specs.Turns.{TransitionRelation}
-use Rattle.iol_proc.specs.World.{Stage, copied}
+use Rattle.iol_proc.specs.World.{WorldState, copied}
 use Rattle.iol_proc.specs.declared.process_slot.ProcessSlot.{ProcessSlot}
 
 -- the store's bytes do not show in connections
@@ -51,22 +51,22 @@ sends slots h c n max there most =
     let asked : suc n == 0 ≡ false = grind (arith, nat_tests) in
     first_none _ _ _ _ _ _ (lacks_conn-slots slots h c ∙ there) asked some
 
--- a stage from its parts
-staged : {P : Type 0} → State → List (ProcessSlot P) → Bool → Stage State P
-staged m process_slots resource_failure =
+-- the state of a world from its parts
+world_state : {P : Type 0} → State → List (ProcessSlot P) → Bool → WorldState State P
+world_state m process_slots resource_failure =
     record { machine = m; process_slots = process_slots; resource_failure = resource_failure }
 
-same_copied : {P : Type 0} (old new : Stage SystemState P) → new.process_slots ≡ old.process_slots
+same_copied : {P : Type 0} (old new : WorldState SystemState P) → new.process_slots ≡ old.process_slots
     → new.resource_failure ≡ old.resource_failure → machine_of new.machine ≡ machine_of old.machine
     → copied new ≡ copied old
-unfolding staged
+unfolding world_state
 same_copied old new process_slots resource_failure machine =
-    ap (λ m. staged m new.process_slots new.resource_failure) machine
-    ∙ (ap (λ s. staged (machine_of old.machine) s new.resource_failure) process_slots
-    ∙ ap (λ r. staged (machine_of old.machine) old.process_slots r) resource_failure)
+    ap (λ m. world_state m new.process_slots new.resource_failure) machine
+    ∙ (ap (λ s. world_state (machine_of old.machine) s new.resource_failure) process_slots
+    ∙ ap (λ r. world_state (machine_of old.machine) old.process_slots r) resource_failure)
 
 -- a refusal leaves the machine, and the processes
-pub refused_copied : {P A E : Type 0} (r : Result A E) (old new : Stage SystemState P)
+pub refused_copied : {P A E : Type 0} (r : Result A E) (old new : WorldState SystemState P)
     → new.process_slots ≡ old.process_slots → new.resource_failure ≡ old.resource_failure
     → IfHonest old.machine.disk (OnErr r (machine_of new.machine ≡ machine_of old.machine))
     → IfHonest old.machine.disk (OnErr r (copied new ≡ copied old))
@@ -75,7 +75,7 @@ refused_copied (Err e) old new process_slots resource_failure same =
     λ honest. same_copied old new process_slots resource_failure (same honest)
 
 module _ {P : Type 0} (turns : TransitionRelation P) where
-  arrives_as : (c n : ℕ) (bytes : List ℕ) (old new : Stage SystemState P) → new.process_slots ≡ old.process_slots
+  arrives_as : (c n : ℕ) (bytes : List ℕ) (old new : WorldState SystemState P) → new.process_slots ≡ old.process_slots
       → new.resource_failure ≡ old.resource_failure → old.machine.disk.honest ≡ true
       → Comes c n bytes old.machine new.machine → ArrivesAs turns c n bytes (copied old) (copied new)
   arrives_as c n bytes old new process_slots resource_failure honest came =
@@ -87,7 +87,7 @@ module _ {P : Type 0} (turns : TransitionRelation P) where
       }
 
   pub arrived_copied : {E : Type 0} (c : ℕ) (left after : Option (List ℕ)) (r : Result Arrived E)
-      (old new : Stage SystemState P) → new.process_slots ≡ old.process_slots
+      (old new : WorldState SystemState P) → new.process_slots ≡ old.process_slots
       → new.resource_failure ≡ old.resource_failure
       → IfOk r (λ a. TakesIn left after a.taken (λ bytes. Comes c a.taken bytes old.machine new.machine))
       → IfHonest old.machine.disk
@@ -101,7 +101,7 @@ module _ {P : Type 0} (turns : TransitionRelation P) where
   }
   arrived_copied c left after (Err e) old new process_slots resource_failure read = λ honest. tt
 
-  sends_as : (c n max : ℕ) (old new : Stage SystemState P) → new.process_slots ≡ old.process_slots
+  sends_as : (c n max : ℕ) (old new : WorldState SystemState P) → new.process_slots ≡ old.process_slots
       → new.resource_failure ≡ old.resource_failure → lacks_conn (tables_of old.machine.kernel) c ≡ false
       → n ≤ min max (length (conn_at (tables_of old.machine.kernel) c).outgoing)
       → machine_of new.machine ≡ sent_on c n (machine_of old.machine) → SendsAs turns c n (copied old) (copied new)
@@ -114,7 +114,7 @@ module _ {P : Type 0} (turns : TransitionRelation P) where
   }
 
   pub drained_copied : {E : Type 0} (c max : ℕ) (before after : Option (List ℕ)) (r : Result Drained E)
-      (old new : Stage SystemState P) → new.process_slots ≡ old.process_slots
+      (old new : WorldState SystemState P) → new.process_slots ≡ old.process_slots
       → new.resource_failure ≡ old.resource_failure → new.machine.disk ≡ old.machine.disk
       → OnOk r (lacks_conn (tables_of old.machine.kernel) c ≡ false)
       → IfOk r (DrainsTo c max before after old.machine.kernel new.machine.kernel)

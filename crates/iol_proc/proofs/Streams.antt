@@ -18,7 +18,7 @@ use Rattle.iol_laws.proofs.Streams.Backlog.{waiting_run}
 use Rattle.iol_proc.specs.Histories.{came_with, sent_with, stream_over, sent_over, drops_with, may_be_no_call, RunsAs}
 use Rattle.iol_proc.specs.Histories.{Proceeds}
 use Rattle.iol_proc.specs.Turns.{Machine, TransitionRelation, Comes, ProcessSlotTurn}
-use Rattle.iol_proc.specs.World.{Stage, copying, DomainTurn, WorldStep, WorldRun}
+use Rattle.iol_proc.specs.World.{WorldState, copying, DomainTurn, WorldStep, WorldRun}
 use Rattle.iol_proc.specs.declared.choice.Choice.{Choice}
 use Rattle.iol_proc.specs.declared.choice.Choice.TheVariants as choice
 use Rattle.iol_proc.specs.declared.process.Turn.{Turn}
@@ -34,11 +34,11 @@ module _ {M P : Type 0} (machine : Machine M) (turns : TransitionRelation P) (Ru
   stays_as : (by : ℕ) (r : Reply) (old mid new : M) (xs : List Choice) (rs : List Reply) → may_be_no_call r ≡ true
       → mid ≡ old → RunsAs Runs mid xs rs new → RunsAs Runs old (choice.Turn by ∷ xs) (r ∷ rs) new
   unfolding stream_over sent_over
-  stays_as by r old mid new xs rs quiet same rest = record {
+  stays_as by r old mid new xs rs brings_none same rest = record {
     events = rest.events;
     replies = rest.replies;
     runs = subst (λ (m : M). Runs m rest.events rest.replies new) same rest.runs;
-    brought = inl (quiet, rest.brought);
+    brought = inl (brings_none, rest.brought);
     stream = rest.stream;
     sent = rest.sent;
     drops = rest.drops;
@@ -79,7 +79,7 @@ module _ {M P : Type 0} (machine : Machine M) (turns : TransitionRelation P) (Ru
         | inr moves ↦ comes_as by process_slot.by moves.turn yields r old mid new xs rs its moves.comes rest
       ]
 
-  domain_as : (by : ℕ) (r : Reply) (w mid : Stage M P) (new : M) (xs : List Choice) (rs : List Reply)
+  domain_as : (by : ℕ) (r : Reply) (w mid : WorldState M P) (new : M) (xs : List Choice) (rs : List Reply)
       → DomainTurn machine turns w by r mid → RunsAs Runs mid.machine xs rs new
       → RunsAs Runs w.machine (choice.Turn by ∷ xs) (r ∷ rs) new
   domain_as by r w mid new xs rs t rest =
@@ -87,12 +87,12 @@ module _ {M P : Type 0} (machine : Machine M) (turns : TransitionRelation P) (Ru
         | inl absent ↦
             stays_as by r w.machine mid.machine new xs rs
             (subst (λ (v : Reply). may_be_no_call v ≡ true) (sym absent.answer) refl)
-            (ap (λ (v : Stage M P). v.machine) absent.stays) rest
+            (ap (λ (v : WorldState M P). v.machine) absent.stays) rest
         | inr here ↦ process_slot_as by here.turn.process_slot here.turn.next here.yields r w.machine mid.machine new xs
             rs here.domain here.turn.turn rest
       ]
 
-  step_as : (x : Choice) (r : Reply) (w mid : Stage M P) (new : M) (xs : List Choice) (rs : List Reply)
+  step_as : (x : Choice) (r : Reply) (w mid : WorldState M P) (new : M) (xs : List Choice) (rs : List Reply)
       → WorldStep machine turns w x r mid → RunsAs Runs mid.machine xs rs new
       → RunsAs Runs w.machine (x ∷ xs) (r ∷ rs) new
   unfolding stream_of sent_of stream_over sent_over
@@ -107,14 +107,14 @@ module _ {M P : Type 0} (machine : Machine M) (turns : TransitionRelation P) (Ru
     drops = λ c. ap (λ (b : Bool). drops_unsent e c || b) (rest.drops c);
   }
 
-  pub run_as : (w after : Stage M P) (xs : List Choice) (rs : List Reply) → WorldRun machine turns w xs rs after
+  pub run_as : (w after : WorldState M P) (xs : List Choice) (rs : List Reply) → WorldRun machine turns w xs rs after
       → RunsAs Runs w.machine xs rs after.machine
   unfolding stream_of sent_of stream_over sent_over
   run_as w after [] [] ran =
       record {
         events = [];
         replies = [];
-        runs = none w.machine after.machine (ap (λ (v : Stage M P). v.machine) ran);
+        runs = none w.machine after.machine (ap (λ (v : WorldState M P). v.machine) ran);
         brought = (refl, refl);
         stream = λ c. refl;
         sent = λ c. refl;
@@ -126,18 +126,19 @@ module _ {M P : Type 0} (machine : Machine M) (turns : TransitionRelation P) (Ru
 
 -- In parts.
 module _ {M P : Type 0} (machine : Machine M) (turns : TransitionRelation P) where
-  pub runs_follow : (w mid after : Stage M P) (past future : List Choice) (rs qs : List Reply)
+  pub runs_follow : (w mid after : WorldState M P) (past future : List Choice) (rs qs : List Reply)
       → WorldRun machine turns w past rs mid → WorldRun machine turns mid future qs after
       → WorldRun machine turns w (past ++ future) (rs ++ qs) after
   runs_follow w mid after [] future [] qs first next =
-      subst (λ (v : Stage M P). WorldRun machine turns v future qs after) first next
+      subst (λ (v : WorldState M P). WorldRun machine turns v future qs after) first next
   runs_follow w mid after (x ∷ past) future (r ∷ rs) qs first next =
       (first.0, first.1, runs_follow first.0 mid after past future rs qs first.2 next)
   runs_follow w mid after [] future (r ∷ rs) qs first next = absurd first
   runs_follow w mid after (x ∷ past) future [] qs first next = absurd first
 
   -- each choice has its reply
-  pub world-even : (w after : Stage M P) (xs : List Choice) (rs : List Reply) → WorldRun machine turns w xs rs after
+  pub world-even : (w after : WorldState M P) (xs : List Choice) (rs : List Reply)
+      → WorldRun machine turns w xs rs after
       → length xs ≡ length rs
   world-even w after [] [] ran = refl
   world-even w after (x ∷ xs) (r ∷ rs) ran = (let rest = world-even ran.0 after xs rs ran.2 in omega (arith, rest))
@@ -153,13 +154,13 @@ unfolding sent_over
 sent_reports c = record { none = refl; next = λ x r xs rs. refl }
 
 module _ {M P : Type 0} (machine : Machine M) (turns : TransitionRelation P) where
-  pub stream_over-append : (w mid : Stage M P) (past future : List Choice) (rs qs : List Reply) (c : ℕ)
+  pub stream_over-append : (w mid : WorldState M P) (past future : List Choice) (rs qs : List Reply) (c : ℕ)
       → WorldRun machine turns w past rs mid → stream_over c (past ++ future) (rs ++ qs) ≡ stream_over c past rs
       ++ stream_over c future qs
   stream_over-append w mid past future rs qs c ran =
       reported-append _ _ (stream_reports c) past future rs qs (world-even machine turns w mid past rs ran)
 
-  pub sent_over-append : (w mid : Stage M P) (past future : List Choice) (rs qs : List Reply) (c : ℕ)
+  pub sent_over-append : (w mid : WorldState M P) (past future : List Choice) (rs qs : List Reply) (c : ℕ)
       → WorldRun machine turns w past rs mid → sent_over c (past ++ future) (rs ++ qs) ≡ sent_over c past rs
       ++ sent_over c future qs
   sent_over-append w mid past future rs qs c ran =
@@ -192,11 +193,12 @@ run_then old mid new [] future (r ∷ rs) qs first next = absurd first
 run_then old mid new (e ∷ past) future [] qs first next = absurd first
 
 module _ {P : Type 0} (turns : TransitionRelation P) where
-  pub machine_as : (w after : Stage State P) (xs : List Choice) (rs : List Reply) → WorldRun copying turns w xs rs after
+  pub machine_as : (w after : WorldState State P) (xs : List Choice) (rs : List Reply)
+      → WorldRun copying turns w xs rs after
       → RunsAs Run w.machine xs rs after.machine
   machine_as w after xs rs ran = run_as copying turns Run run_none run_step w after xs rs ran
 
-  pub history_proceeds : (first : State) (past : List Event) (ps : List Reply) (w after : Stage State P)
+  pub history_proceeds : (first : State) (past : List Event) (ps : List Reply) (w after : WorldState State P)
       (xs : List Choice) (rs : List Reply) → Run first past ps w.machine → WorldRun copying turns w xs rs after
       → Proceeds first past ps xs rs after.machine
   history_proceeds first past ps w after xs rs was ran =
@@ -211,7 +213,7 @@ module _ {P : Type 0} (turns : TransitionRelation P) where
             ∙ ap (λ (l : List ℕ). sent_of c past ps ++ l) (now.sent c);
       }
 
-  pub unread_over : (w after : Stage State P) (xs : List Choice) (rs : List Reply) (c : ℕ) → IsOrderly w.machine
+  pub unread_over : (w after : WorldState State P) (xs : List Choice) (rs : List Reply) (c : ℕ) → IsOrderly w.machine
       → WorldRun copying turns w xs rs after
       → IsEndOf (bytes_of (conn_at w.machine c).incoming) (stream_over c xs rs)
       (bytes_of (conn_at after.machine c).incoming)
@@ -222,7 +224,7 @@ module _ {P : Type 0} (turns : TransitionRelation P) where
       (bytes_of (conn_at after.machine c).incoming)) (now.stream c)
       (unread_run w.machine after.machine now.events now.replies c order now.runs)
 
-  pub unsent_over : (w after : Stage State P) (xs : List Choice) (rs : List Reply) (c : ℕ) → IsOrderly w.machine
+  pub unsent_over : (w after : WorldState State P) (xs : List Choice) (rs : List Reply) (c : ℕ) → IsOrderly w.machine
       → WorldRun copying turns w xs rs after → list_any (λ x. drops_with x c) xs ≡ false
       → GoesFirst (bytes_of (conn_at w.machine c).outgoing) (sent_over c xs rs)
       (bytes_of (conn_at after.machine c).outgoing)
@@ -233,7 +235,7 @@ module _ {P : Type 0} (turns : TransitionRelation P) where
       (bytes_of (conn_at after.machine c).outgoing)) (now.sent c)
       (unsent_run w.machine after.machine now.events now.replies c order now.runs (now.drops c ∙ kept))
 
-  pub waiting_over : (w after : Stage State P) (xs : List Choice) (rs : List Reply) (c : ℕ) → IsOrderly w.machine
+  pub waiting_over : (w after : WorldState State P) (xs : List Choice) (rs : List Reply) (c : ℕ) → IsOrderly w.machine
       → WorldRun copying turns w xs rs after → (conn_at w.machine c).accepted ≡ false
       → (conn_at after.machine c).accepted ≡ false
       → IsAllUnread w.machine c (stream_over c xs rs) (sent_over c xs rs) after.machine

@@ -3,7 +3,7 @@ use Rattle.std.specs.Prelude.{List, ◌∷◌, IsFalse, ⊤}
 use Rattle.iol_core.specs.declared.events.Reply.{Reply}
 use Rattle.iol_laws.specs.Caller.{is_resource_failure}
 use Rattle.iol_proc.specs.Turns.{TransitionRelation, Machine}
-use Rattle.iol_proc.specs.World.{Stage, copying, sharing, WorldRun}
+use Rattle.iol_proc.specs.World.{WorldState, copying, sharing, WorldRun}
 use Rattle.iol_proc.specs.declared.choice.Choice.{Choice}
 use Rattle.iol_proc.specs.declared.choice.Choice.TheVariants as choice
 
@@ -17,10 +17,10 @@ AreFailureFree xs rs = ⊤
 -- refusal.
 pub record ResourceFailureAsItRuns {M P : Type 0} (machine : Machine M) (turns : TransitionRelation P) : Type 0 where
   -- if the flag is clear at the end, it was clear at the start, and no turn got such a refusal
-  pub never_was : (w after : Stage M P) (xs : List Choice) (rs : List Reply) → WorldRun machine turns w xs rs after
+  pub never_was : (w after : WorldState M P) (xs : List Choice) (rs : List Reply) → WorldRun machine turns w xs rs after
       → IsFalse after.resource_failure → IsFalse w.resource_failure × AreFailureFree xs rs
   -- if the flag is clear at the start and no turn gets such a refusal, it is clear at the end
-  pub stays_failure_free : (w after : Stage M P) (xs : List Choice) (rs : List Reply)
+  pub stays_failure_free : (w after : WorldState M P) (xs : List Choice) (rs : List Reply)
       → WorldRun machine turns w xs rs after
       → IsFalse w.resource_failure → AreFailureFree xs rs → IsFalse after.resource_failure
 

@@ -18,7 +18,7 @@ use Rattle.iol_laws.specs.Order.{IsOrderly}
 use Rattle.iol_system.specs.Machine.{SystemState}
 use Rattle.iol_system.specs.Promises.{Chain}
 use Rattle.iol_proc.specs.Turns.{TransitionRelation}
-use Rattle.iol_proc.specs.World.{Stage, copying, sharing, WorldRun}
+use Rattle.iol_proc.specs.World.{WorldState, copying, sharing, WorldRun}
 use Rattle.iol_proc.specs.declared.choice.Choice.{Choice}
 use Rattle.iol_proc.specs.declared.choice.Choice.TheVariants as choice
 
@@ -91,23 +91,24 @@ pub record Proceeds (first : State) (past : List Event) (ps : List Reply) (xs : 
 
 pub record HistoriesOfChoices {P : Type 0} (turns : TransitionRelation P) : Type 0 where
   -- a run of a world is a run of the copying machine and, over any store, of the system
-  pub machine : (w after : Stage State P) (xs : List Choice) (rs : List Reply) → WorldRun copying turns w xs rs after
+  pub machine : (w after : WorldState State P) (xs : List Choice) (rs : List Reply)
+      → WorldRun copying turns w xs rs after
       → RunsAs Run w.machine xs rs after.machine
-  pub system : (w after : Stage SystemState P) (xs : List Choice) (rs : List Reply)
+  pub system : (w after : WorldState SystemState P) (xs : List Choice) (rs : List Reply)
       → WorldRun sharing turns w xs rs after
       → RunsAs Chain w.machine xs rs after.machine
   -- the choices extend histories by the bytes that they receive and send
-  pub proceeds : (first : State) (past : List Event) (ps : List Reply) (w after : Stage State P)
+  pub proceeds : (first : State) (past : List Event) (ps : List Reply) (w after : WorldState State P)
       (xs : List Choice) (rs : List Reply)
       → Run first past ps w.machine → WorldRun copying turns w xs rs after → Proceeds first past ps xs rs after.machine
   -- two successive runs are one run, whose history is that of the first followed by that of the second
-  pub follows : (w mid after : Stage State P) (past future : List Choice) (rs qs : List Reply)
+  pub follows : (w mid after : WorldState State P) (past future : List Choice) (rs qs : List Reply)
       → WorldRun copying turns w past rs mid
       → WorldRun copying turns mid future qs after → WorldRun copying turns w (past ++ future) (rs ++ qs) after
-  pub stream : (w mid : Stage State P) (past future : List Choice) (rs qs : List Reply) (c : ℕ)
+  pub stream : (w mid : WorldState State P) (past future : List Choice) (rs qs : List Reply) (c : ℕ)
       → WorldRun copying turns w past rs mid
       → stream_over c (past ++ future) (rs ++ qs) ≡ stream_over c past rs ++ stream_over c future qs
-  pub sent : (w mid : Stage State P) (past future : List Choice) (rs qs : List Reply) (c : ℕ)
+  pub sent : (w mid : WorldState State P) (past future : List Choice) (rs qs : List Reply) (c : ℕ)
       → WorldRun copying turns w past rs mid
       → sent_over c (past ++ future) (rs ++ qs) ≡ sent_over c past rs ++ sent_over c future qs
   -- one more choice adds the bytes that it receives and sends
@@ -116,17 +117,17 @@ pub record HistoriesOfChoices {P : Type 0} (turns : TransitionRelation P) : Type
   pub sent_more : (xs : List Choice) (rs : List Reply) (x : Choice) (r : Reply) (c : ℕ) → length xs ≡ length rs
       → sent_over c (xs ++ x ∷ []) (rs ++ r ∷ []) ≡ sent_over c xs rs ++ sent_with c x r
   -- the input is read in order, over any run
-  pub unread : (w after : Stage State P) (xs : List Choice) (rs : List Reply) (c : ℕ) → IsOrderly w.machine
+  pub unread : (w after : WorldState State P) (xs : List Choice) (rs : List Reply) (c : ℕ) → IsOrderly w.machine
       → WorldRun copying turns w xs rs after
       → IsEndOf (bytes_of (conn_at w.machine c).incoming) (stream_over c xs rs)
       (bytes_of (conn_at after.machine c).incoming)
   -- the output is sent in order, over a run during which the peer receives
-  pub unsent : (w after : Stage State P) (xs : List Choice) (rs : List Reply) (c : ℕ) → IsOrderly w.machine
+  pub unsent : (w after : WorldState State P) (xs : List Choice) (rs : List Reply) (c : ℕ) → IsOrderly w.machine
       → WorldRun copying turns w xs rs after → IsFalse (list_any (λ x. drops_with x c) xs)
       → GoesFirst (bytes_of (conn_at w.machine c).outgoing) (sent_over c xs rs)
       (bytes_of (conn_at after.machine c).outgoing)
   -- over a run at whose end the connection is not yet accepted
-  pub waiting : (w after : Stage State P) (xs : List Choice) (rs : List Reply) (c : ℕ) → IsOrderly w.machine
+  pub waiting : (w after : WorldState State P) (xs : List Choice) (rs : List Reply) (c : ℕ) → IsOrderly w.machine
       → WorldRun copying turns w xs rs after → IsFalse (conn_at w.machine c).accepted
       → IsFalse (conn_at after.machine c).accepted
       → IsAllUnread w.machine c (stream_over c xs rs) (sent_over c xs rs) after.machine

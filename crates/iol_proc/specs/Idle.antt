@@ -5,7 +5,7 @@ use Rattle.std.specs.List.{list_all}
 use Rattle.iol_core.specs.declared.events.Reply.{Reply}
 use Rattle.iol_proc.specs.Turns.{Machine, TransitionRelation, is_would_block}
 use Rattle.iol_system.specs.Machine.{SystemState}
-use Rattle.iol_proc.specs.World.{Stage, PlaceTurn, WorldRun, copied, copying, domains_of, sharing}
+use Rattle.iol_proc.specs.World.{WorldState, PlaceTurn, WorldRun, copied, copying, domains_of, sharing}
 use Rattle.iol_proc.specs.declared.choice.Choice.{Choice}
 use Rattle.iol_proc.specs.declared.choice.Choice.TheVariants as choice
 use Rattle.iol_proc.specs.declared.turn.Outcome.{Outcome}
@@ -49,14 +49,15 @@ rounds ds i (suc n) = choice.Turn (slice_index ds (i % length ds)) ∷ rounds ds
 
 module _ {M P : Type 0} (machine : Machine M) (turns : TransitionRelation P) where
   -- Turns in rounds, from the i-th on: the processes in order of index, then the first again.
-  abbrev pub RoundRun : Stage M P → (i : ℕ) → List Went → Stage M P → Type 0
+  abbrev pub RoundRun : WorldState M P → (i : ℕ) → List Went → WorldState M P → Type 0
   RoundRun w i [] after = after ≡ w
-  RoundRun w i (t ∷ ts) after = (mid : Stage M P) × PlaceTurn machine turns w (i % length w.process_slots) t.0 t.1 mid
+  RoundRun w i (t ∷ ts) after =
+      (mid : WorldState M P) × PlaceTurn machine turns w (i % length w.process_slots) t.0 t.1 mid
       × RoundRun mid (suc i) ts after
 
   -- Turns in rounds in ascending order of domains, up to the maximum number, or until every process has yielded twice
   -- since the last turn whose reply was not WouldBlock.
-  pub record Idles (w : Stage M P) (most : ℕ) (idle : Bool) (after : Stage M P) : Type 0 where
+  pub record Idles (w : WorldState M P) (most : ℕ) (idle : Bool) (after : WorldState M P) : Type 0 where
     pub went : List Went
     pub ran : RoundRun w 0 went after
     pub run : WorldRun machine turns w (rounds (domains_of w.process_slots) 0 (length went)) (map (λ t. t.1) went) after
@@ -67,12 +68,12 @@ module _ {M P : Type 0} (machine : Machine M) (turns : TransitionRelation P) whe
 
 module _ {P : Type 0} (turns : TransitionRelation P) where
   -- a turn of the process at this index of a world, with this outcome
-  abbrev pub TurnGoes : Stage SystemState P → (place : ℕ) → Outcome → Stage SystemState P → Type 0
+  abbrev pub TurnGoes : WorldState SystemState P → (place : ℕ) → Outcome → WorldState SystemState P → Type 0
   TurnGoes w place o after = PlaceTurn sharing turns w place o.yields o.reply after
 
   -- turns in rounds, in a world and in the copying machine
-  abbrev pub RoundsGo : Stage SystemState P → (most : ℕ) (idle : Bool) → Stage SystemState P → Type 0
+  abbrev pub RoundsGo : WorldState SystemState P → (most : ℕ) (idle : Bool) → WorldState SystemState P → Type 0
   RoundsGo w most idle after = Idles sharing turns w most idle after
 
-  abbrev pub CopiedIdles : Stage SystemState P → (most : ℕ) (idle : Bool) → Stage SystemState P → Type 0
+  abbrev pub CopiedIdles : WorldState SystemState P → (most : ℕ) (idle : Bool) → WorldState SystemState P → Type 0
   CopiedIdles w most idle after = Idles copying turns (copied w) most idle (copied after)

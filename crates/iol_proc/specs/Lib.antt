@@ -4,7 +4,7 @@ pub mod Idle
 pub mod Laws
 pub mod ReadableBytes
 pub mod Looks
-pub mod Quiet
+pub mod CopyFree
 pub mod Quiescence
 pub mod FailureFree
 pub mod Turns

@@ -16,7 +16,7 @@ use Rattle.iol_core.specs.declared.refusals.Refusal.TheVariants.{WouldBlock}
 use Rattle.iol_proc.specs.Idle.{Idles, more_of_two}
 use Rattle.iol_proc.specs.ReadableBytes.{readable_to}
 use Rattle.iol_proc.specs.Turns.{TransitionRelation}
-use Rattle.iol_proc.specs.World.{Stage, copying}
+use Rattle.iol_proc.specs.World.{WorldState, copying}
 use Rattle.iol_proc.specs.declared.process.Turn.TheVariants as turn
 use Rattle.iol_proc.specs.declared.process_slot.ProcessSlot.{ProcessSlot}
 
@@ -50,7 +50,8 @@ module _ {P : Type 0} (S : Claim P) where
   -- The result when all are idle, as `World::until_idle` returns it: the property holds for each process, for two
   -- yields.
   pub record IdleIsQuiescent (turns : TransitionRelation P) : Type 0 where
-    pub all : (w after : Stage State P) (most : ℕ) → Idles copying turns w most true after
+    pub all : (w after : WorldState State P) (most : ℕ) → Idles copying turns w most true after
         → AllQuiescent after.process_slots after.machine
-    pub each : (w after : Stage State P) (most place : ℕ) (s : ProcessSlot P) → Idles copying turns w most true after
+    pub each : (w after : WorldState State P) (most place : ℕ) (s : ProcessSlot P)
+        → Idles copying turns w most true after
         → slice_get after.process_slots place ≡ Some s → S 2 s.by s.process s.last after.machine

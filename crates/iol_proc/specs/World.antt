@@ -30,18 +30,19 @@ abbrev pub sharing : Machine SystemState
 sharing = record { Step = Promises; is_readable = λ s by. readable_to (machine_of s) by }
 
 -- a machine, its processes, each with its last reply, and whether a turn got a resource refusal
-pub record Stage (M P : Type 0) : Type 0 where
+pub record WorldState (M P : Type 0) : Type 0 where
   pub machine : M
   pub process_slots : List (ProcessSlot P)
   pub resource_failure : Bool
 
--- the stage of a system with its processes
-abbrev pub staged : {P : Type 0} → SystemState → List (ProcessSlot P) → (resource_failure : Bool) → Stage SystemState P
-staged system process_slots resource_failure =
+-- the state of a world: a system with its processes
+abbrev pub world_state : {P : Type 0} → SystemState → List (ProcessSlot P) → (resource_failure : Bool)
+    → WorldState SystemState P
+world_state system process_slots resource_failure =
     record { machine = system; process_slots = process_slots; resource_failure = resource_failure }
 
 -- the same processes over the copying machine
-abbrev pub copied : {P : Type 0} → Stage SystemState P → Stage State P
+abbrev pub copied : {P : Type 0} → WorldState SystemState P → WorldState State P
 copied w = record {
   machine = machine_of w.machine;
   process_slots = w.process_slots;
@@ -80,7 +81,8 @@ pub record IsInSlots {P : Type 0} (process_slots : List (ProcessSlot P)) (by : �
 
 module _ {M P : Type 0} (machine : Machine M) (turns : TransitionRelation P) where
   -- a turn of the process at this index: whether it yielded, and the reply
-  pub record PlaceTurn (w : Stage M P) (place : ℕ) (yields : Bool) (r : Reply) (after : Stage M P) : Type 0 where
+  pub record PlaceTurn (w : WorldState M P) (place : ℕ) (yields : Bool) (r : Reply) (after : WorldState M P) :
+      Type 0 where
     pub process_slot : ProcessSlot P
     pub next : ProcessSlot P
     pub sits : slice_get w.process_slots place ≡ Some process_slot
@@ -89,53 +91,53 @@ module _ {M P : Type 0} (machine : Machine M) (turns : TransitionRelation P) whe
     pub notes : after.resource_failure ≡ (w.resource_failure || is_resource_failure r)
 
   -- A turn of the process at this index, which did this. None: there is no process, and nothing changes.
-  abbrev pub TurnAt : Stage M P → (place : ℕ) → Option Activity → Stage M P → Type 0
+  abbrev pub TurnAt : WorldState M P → (place : ℕ) → Option Activity → WorldState M P → Type 0
   TurnAt w place None after = (length w.process_slots ≤ place) × (after ≡ w)
   TurnAt w place (Some a) after =
       (yields : Bool) × (r : Reply) × PlaceTurn w place yields r after × (a ≡ activity_of yields r)
 
   -- no process is in this domain
-  pub record Absent (w : Stage M P) (by : ℕ) (r : Reply) (after : Stage M P) : Type 0 where
+  pub record Absent (w : WorldState M P) (by : ℕ) (r : Reply) (after : WorldState M P) : Type 0 where
     pub nobody : HasNoProcessSlot w.process_slots by
     pub answer : r ≡ reply.Refused NoDomain
     pub stays : after ≡ w
 
   -- a turn of the process in this domain
-  pub record Present (w : Stage M P) (by : ℕ) (r : Reply) (after : Stage M P) : Type 0 where
+  pub record Present (w : WorldState M P) (by : ℕ) (r : Reply) (after : WorldState M P) : Type 0 where
     pub place : ℕ
     pub yields : Bool
     pub turn : PlaceTurn w place yields r after
     pub domain : turn.process_slot.by ≡ by
 
   -- a turn of a domain
-  abbrev pub DomainTurn : Stage M P → (by : ℕ) → Reply → Stage M P → Type 0
+  abbrev pub DomainTurn : WorldState M P → (by : ℕ) → Reply → WorldState M P → Type 0
   DomainTurn w by r after = Absent w by r after ⊎ Present w by r after
 
   -- an external event
-  pub record OutsideStep (w : Stage M P) (e : Event) (r : Reply) (after : Stage M P) : Type 0 where
+  pub record OutsideStep (w : WorldState M P) (e : Event) (r : Reply) (after : WorldState M P) : Type 0 where
     pub step : machine.Step w.machine e r after.machine
     pub process_slots_stay : after.process_slots ≡ w.process_slots
     pub resource_failure_stays : after.resource_failure ≡ w.resource_failure
 
   -- one choice
-  abbrev pub WorldStep : Stage M P → Choice → Reply → Stage M P → Type 0
+  abbrev pub WorldStep : WorldState M P → Choice → Reply → WorldState M P → Type 0
   WorldStep w (choice.Turn by) r after = DomainTurn w by r after
   WorldStep w (choice.Outside e) r after = OutsideStep w e r after
 
   -- From w, these choices get these replies, in order, and lead to after.
-  abbrev pub WorldRun : Stage M P → List Choice → List Reply → Stage M P → Type 0
+  abbrev pub WorldRun : WorldState M P → List Choice → List Reply → WorldState M P → Type 0
   WorldRun w [] [] after = after ≡ w
-  WorldRun w (c ∷ cs) (r ∷ rs) after = (mid : Stage M P) × WorldStep w c r mid × WorldRun mid cs rs after
+  WorldRun w (c ∷ cs) (r ∷ rs) after = (mid : WorldState M P) × WorldStep w c r mid × WorldRun mid cs rs after
   WorldRun w [] (r ∷ rs) after = ⊥
   WorldRun w (c ∷ cs) [] after = ⊥
 
 module _ {P : Type 0} (turns : TransitionRelation P) where
   -- An external event, a turn, and a list of choices, in the copying machine.
-  abbrev pub CopiedStep : Stage SystemState P → Event → Reply → Stage SystemState P → Type 0
+  abbrev pub CopiedStep : WorldState SystemState P → Event → Reply → WorldState SystemState P → Type 0
   CopiedStep w e r after = OutsideStep copying turns (copied w) e r (copied after)
 
-  abbrev pub CopiedRun : Stage SystemState P → List Choice → List Reply → Stage SystemState P → Type 0
+  abbrev pub CopiedRun : WorldState SystemState P → List Choice → List Reply → WorldState SystemState P → Type 0
   CopiedRun w cs rs after = WorldRun copying turns (copied w) cs rs (copied after)
 
-  abbrev pub CopiedTurnAt : Stage SystemState P → (place : ℕ) → Option Activity → Stage SystemState P → Type 0
+  abbrev pub CopiedTurnAt : WorldState SystemState P → (place : ℕ) → Option Activity → WorldState SystemState P → Type 0
   CopiedTurnAt w place a after = TurnAt copying turns (copied w) place a (copied after)

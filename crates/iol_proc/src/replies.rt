@@ -1,7 +1,7 @@
 //! Copies of replies, and their classification for turns.
 ghost use Rattle.std.specs.Prelude.{◌≡◌};
 ghost use Rattle.iol_laws.specs.Prelude.{is_resource_failure};
-ghost use Rattle.iol_proc.specs.Quiet.{IsPlain};
+ghost use Rattle.iol_proc.specs.CopyFree.{IsPlain};
 ghost use Rattle.iol_proc.specs.Turns.{is_would_block};
 
 use iol_core::events::Reply;

@@ -1,7 +1,7 @@
 //! Turns in rounds, until all processes are idle.
 ghost use Rattle.std.specs.Prelude.{◌≡◌, ◌<◌, length, false};
 ghost use Rattle.iol_proc.specs.Idle.{RoundsGo, counted, is_idle, went};
-ghost use Rattle.iol_proc.specs.World.{domains_of, staged};
+ghost use Rattle.iol_proc.specs.World.{domains_of, world_state};
 
 use crate::process::Process;
 use crate::process_slot::ProcessSlot;
@@ -46,8 +46,8 @@ pub(crate) fn until_idle<B: Backing + Drop, P: Process>(
     requires { length yields.old.items ≡ length process_slots.old.items }
     ensures domains { domains_of process_slots.new.items ≡ domains_of process_slots.old.items }
     ensures length { length yields.new.items ≡ length process_slots.new.items }
-    ensures idles { RoundsGo P.turns (staged system.old process_slots.old.items resource_failure.old) turns result
-        (staged system.new process_slots.new.items resource_failure.new) }
+    ensures idles { RoundsGo P.turns (world_state system.old process_slots.old.items resource_failure.old) turns result
+        (world_state system.new process_slots.new.items resource_failure.new) }
 {
     yields.fill(0);
     for i in 0..turns {

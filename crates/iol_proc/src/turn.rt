@@ -2,7 +2,7 @@
 ghost use Rattle.std.specs.Prelude.{◌≡◌, ◌<◌, length};
 ghost use Rattle.iol_proc.specs.Idle.{TurnGoes};
 ghost use Rattle.iol_proc.specs.Turns.{ProcessSlotTurn};
-ghost use Rattle.iol_proc.specs.World.{activity_of, sharing, domains_of, staged};
+ghost use Rattle.iol_proc.specs.World.{activity_of, sharing, domains_of, world_state};
 
 use crate::activity::Activity;
 use crate::look::Look;
@@ -81,8 +81,8 @@ pub(crate) fn place_turn<B: Backing + Drop, P: Process>(
 ) -> Outcome
     requires { place < length process_slots.old.items }
     ensures domains { domains_of process_slots.new.items ≡ domains_of process_slots.old.items }
-    ensures turn { TurnGoes P.turns (staged system.old process_slots.old.items resource_failure.old) place result
-        (staged system.new process_slots.new.items resource_failure.new) }
+    ensures turn { TurnGoes P.turns (world_state system.old process_slots.old.items resource_failure.old) place result
+        (world_state system.new process_slots.new.items resource_failure.new) }
 {
     let process_slot = &mut process_slots[place];
     let outcome = process_slot_turn(system, process_slot);

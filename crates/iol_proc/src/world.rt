@@ -9,7 +9,7 @@ ghost use Rattle.iol_proc.specs.Prelude.{KeepsHonesty, copied, readable};
 ghost use Rattle.iol_proc.specs.Idle.{CopiedIdles, Idles};
 ghost use Rattle.iol_proc.specs.Laws.{HasEvents};
 ghost use Rattle.iol_proc.specs.ReadableBytes.{readable_to};
-ghost use Rattle.iol_proc.specs.World.{Stage, sharing, process_slot_of, domains_of, IsInSlots, HasNoProcessSlot, SitsAt, WorldStep, WorldRun, DomainTurn, OutsideStep, CopiedStep, CopiedRun};
+ghost use Rattle.iol_proc.specs.World.{WorldState, sharing, process_slot_of, domains_of, IsInSlots, HasNoProcessSlot, SitsAt, WorldStep, WorldRun, DomainTurn, OutsideStep, CopiedStep, CopiedRun};
 ghost use Rattle.iol_proc.specs.World.{CopiedTurnAt, TurnAt};
 
 use crate::activity::Activity;
@@ -44,9 +44,9 @@ impl<B: Backing, P: Process> Model for World<B, P> {
     ghost use Rattle.std.specs.Prelude.{◌≡◌, length};
     ghost use Rattle.std.specs.List.Sorted.{IsStrictlyIncreasing};
     ghost use Rattle.iol_system.specs.Prelude.{SystemState};
-    ghost use Rattle.iol_proc.specs.World.{Stage, domains_of};
+    ghost use Rattle.iol_proc.specs.World.{WorldState, domains_of};
 
-    ghost Value = { Stage SystemState P };
+    ghost Value = { WorldState SystemState P };
 
     ghost view = { λ w. record { machine = w.system; process_slots = w.process_slots.items; resource_failure = w.resource_failure } };
 

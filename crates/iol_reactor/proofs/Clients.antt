@@ -6,7 +6,7 @@ use Rattle.std.proofs.Math.Seq.{take-length}
 use Rattle.std.proofs.lemmas.List.{length-append, length-take, take-append-drop, take-append-le, take_min}
 use Rattle.iol_system.specs.Machine.{SystemState}
 use Rattle.iol_proc.specs.Turns.{TransitionRelation}
-use Rattle.iol_proc.specs.World.{Stage}
+use Rattle.iol_proc.specs.World.{WorldState}
 use Rattle.iol_reactor.specs.Bytes.{IsGiven}
 use Rattle.iol_reactor.specs.Clients.{AreWhole, BytesMove, ConnectionsFollow, Holds, IsAsking, IsDone, IsLeft}
 use Rattle.iol_reactor.specs.Clients.{Request, Visit, WereLeft, bytes_of}
@@ -109,7 +109,8 @@ given_more asked given now bytes more rest within less split place =
 
 -- ---- the connections
 
-module _ {P : Type 0} (turns : TransitionRelation P) (starts : Stage SystemState P → Type 0) (frames : List ℕ → Frame
+module _ {P : Type 0} (turns : TransitionRelation P) (starts : WorldState SystemState P → Type 0) (frames : List ℕ
+    → Frame
     → Type 0) (pool : ℕ) where
   whole_more : (before came : List ℕ) (r : Request) → AreWhole turns starts frames pool before
       → frames r.waiting (Complete r.size) → came ≡ before ++ bytes_of r → AreWhole turns starts frames pool came
@@ -176,9 +177,9 @@ module _ {P : Type 0} (turns : TransitionRelation P) (starts : Stage SystemState
   }
 
   -- the connection is over in its world
-  over_in : (w : Option (Stage SystemState P)) (c : ℕ) (came sent : List ℕ) → IsOverIn w c
+  over_in : (w : Option (WorldState SystemState P)) (c : ℕ) (came sent : List ℕ) → IsOverIn w c
       → IsVisitOf turns starts pool w c came sent false
-      → (u : Stage SystemState P)
+      → (u : WorldState SystemState P)
       × IsDone turns starts frames pool (record { world = u; conn = c; came = came; sent = sent })
   over_in None c came sent over v = absurd over
   over_in (Some w) c came sent over v = (w, record { visited = v; over = over })

@@ -5,7 +5,7 @@ use Rattle.std.specs.Prelude.{◌≢◌}
 use Rattle.std.proofs.lemmas.Bool.Decides.{nat_tests}
 use Rattle.iol_system.specs.Machine.{SystemState}
 use Rattle.iol_proc.specs.Turns.{TransitionRelation}
-use Rattle.iol_proc.specs.World.{Stage}
+use Rattle.iol_proc.specs.World.{WorldState}
 use Rattle.iol_core.specs.declared.descriptors.How.{How}
 use Rattle.iol_reactor.specs.LinkSteps.{ReportsEnd, ReportsEndIn}
 use Rattle.iol_reactor.specs.Serving.{EndsIn}
@@ -15,8 +15,8 @@ use Rattle.iol_reactor.specs.declared.links.Link.{Link}
 
 -- the world chosen by two tests: the current one, or the one before
 abbrev which : {P : Type 0}
-    → (is_current is_before : Bool) (w : Stage SystemState P) (before : Option (Stage SystemState P))
-    → Option (Stage SystemState P)
+    → (is_current is_before : Bool) (w : WorldState SystemState P) (before : Option (WorldState SystemState P))
+    → Option (WorldState SystemState P)
 which is_current is_before w before = if is_current then Some w else (if is_before then before else None)
 
 link_equal : (l d : Link) → l.conn ≡ d.conn → l.generation ≡ d.generation → l ≡ d
@@ -37,9 +37,9 @@ conns_before d l n apart of other =
     λ equal. apart (let same : l.generation ≡ d.generation = grind (arith, nat_tests, of, other) in
     link_equal l d (sym equal) same)
 
-module _ {P : Type 0} (turns : TransitionRelation P) (starts : Stage SystemState P → Type 0) (pool : ℕ) where
+module _ {P : Type 0} (turns : TransitionRelation P) (starts : WorldState SystemState P → Type 0) (pool : ℕ) where
   -- a step of the current world that leaves every history unchanged
-  stays_current : (b e : Bool) (w after : Stage SystemState P) (before : Option (Stage SystemState P)) (c : ℕ)
+  stays_current : (b e : Bool) (w after : WorldState SystemState P) (before : Option (WorldState SystemState P)) (c : ℕ)
       (came sent : List ℕ) (gone : Bool) → VisitsStay turns starts pool w after
       → IsVisitOf turns starts pool (which b e w before) c came sent gone
       → IsVisitOf turns starts pool (which b e after before) c came sent gone
@@ -47,7 +47,7 @@ module _ {P : Type 0} (turns : TransitionRelation P) (starts : Stage SystemState
   stays_current false e w after before c came sent gone stay v = v
 
   -- a step of the world before
-  stays_before : (b e : Bool) (w u after : Stage SystemState P) (c : ℕ) (came sent : List ℕ) (gone : Bool)
+  stays_before : (b e : Bool) (w u after : WorldState SystemState P) (c : ℕ) (came sent : List ℕ) (gone : Bool)
       → VisitsStay turns starts pool u after
       → IsVisitOf turns starts pool (which b e w (Some u)) c came sent gone
       → IsVisitOf turns starts pool (which b e w (Some after)) c came sent gone
@@ -56,12 +56,12 @@ module _ {P : Type 0} (turns : TransitionRelation P) (starts : Stage SystemState
   stays_before false false w u after c came sent gone stay v = v
 
   -- the world before is dropped
-  is_lost : (before : Option (Stage SystemState P)) (c : ℕ) (came sent : List ℕ) (gone : Bool)
+  is_lost : (before : Option (WorldState SystemState P)) (c : ℕ) (came sent : List ℕ) (gone : Bool)
       → IsVisitOf turns starts pool before c came sent gone → IsVisitOf turns starts pool None c came sent gone
   is_lost None c came sent gone v = v
   is_lost (Some w) c came sent gone v = (w, v)
 
-  stays_dropped : (b e : Bool) (w : Stage SystemState P) (before : Option (Stage SystemState P)) (c : ℕ)
+  stays_dropped : (b e : Bool) (w : WorldState SystemState P) (before : Option (WorldState SystemState P)) (c : ℕ)
       (came sent : List ℕ) (gone : Bool)
       → IsVisitOf turns starts pool (which b e w before) c came sent gone
       → IsVisitOf turns starts pool (which b e w None) c came sent gone
@@ -72,7 +72,7 @@ module _ {P : Type 0} (turns : TransitionRelation P) (starts : Stage SystemState
   pub links_same : (s : Serving P) → LinksStay turns starts pool s s
   links_same s = λ l came sent gone up v. v
 
-  pub links_current : (n : ℕ) (w after : Stage SystemState P) (before : Option (Stage SystemState P))
+  pub links_current : (n : ℕ) (w after : WorldState SystemState P) (before : Option (WorldState SystemState P))
       → VisitsStay turns starts pool w after
       → LinksStay turns starts pool (record { number = n; current = w; before = before })
       (record { number = n; current = after; before = before })
@@ -80,14 +80,14 @@ module _ {P : Type 0} (turns : TransitionRelation P) (starts : Stage SystemState
       λ l came sent gone up v. stays_current (l.generation == n) (l.generation + 1 == n) w after before l.conn came sent
       gone stay v
 
-  pub links_before : (n : ℕ) (w u after : Stage SystemState P) → VisitsStay turns starts pool u after
+  pub links_before : (n : ℕ) (w u after : WorldState SystemState P) → VisitsStay turns starts pool u after
       → LinksStay turns starts pool (record { number = n; current = w; before = Some u })
       (record { number = n; current = w; before = Some after })
   links_before n w u after stay =
       λ l came sent gone up v. stays_before (l.generation == n) (l.generation + 1 == n) w u after l.conn came sent gone
       stay v
 
-  pub links_dropped : (n : ℕ) (w : Stage SystemState P) (before : Option (Stage SystemState P))
+  pub links_dropped : (n : ℕ) (w : WorldState SystemState P) (before : Option (WorldState SystemState P))
       → LinksStay turns starts pool (record { number = n; current = w; before = before })
       (record { number = n; current = w; before = None })
   links_dropped n w before = λ l came sent gone up v. stays_dropped (l.generation == n) (l.generation + 1 == n) w before
@@ -99,7 +99,8 @@ module _ {P : Type 0} (turns : TransitionRelation P) (starts : Stage SystemState
       λ l came sent gone up v. next l came sent gone (omega (arith, more, up)) (first l came sent gone up v)
 
   -- a new world is the current one
-  renewed : (is next later : Bool) (w new : Stage SystemState P) (before : Option (Stage SystemState P)) (c : ℕ)
+  renewed : (is next later : Bool) (w new : WorldState SystemState P) (before : Option (WorldState SystemState P))
+      (c : ℕ)
       (came sent : List ℕ) (gone : Bool) → later ≡ false
       → IsVisitOf turns starts pool (which is next w before) c came sent gone
       → IsVisitOf turns starts pool (which later is new (Some w)) c came sent gone
@@ -108,7 +109,7 @@ module _ {P : Type 0} (turns : TransitionRelation P) (starts : Stage SystemState
   renewed false false false w new before c came sent gone none v = v
   renewed is next true w new before c came sent gone none v = absurd (cc (none))
 
-  pub links_renewed : (n : ℕ) (w new : Stage SystemState P) (before : Option (Stage SystemState P))
+  pub links_renewed : (n : ℕ) (w new : WorldState SystemState P) (before : Option (WorldState SystemState P))
       → LinksStay turns starts pool (record { number = n; current = w; before = before })
       (record { number = n + 1; current = new; before = Some w })
   links_renewed n w new before = λ l came sent gone up v. (
@@ -119,7 +120,8 @@ module _ {P : Type 0} (turns : TransitionRelation P) (starts : Stage SystemState
       (renewed (l.generation == n) (l.generation + 1 == n) (l.generation == n + 1) w new before l.conn came sent gone
       none v))
 
-  pub links_renewed_as : (n m : ℕ) (w current : Stage SystemState P) (before retiring : Option (Stage SystemState P))
+  pub links_renewed_as : (n m : ℕ) (w current : WorldState SystemState P)
+      (before retiring : Option (WorldState SystemState P))
       → m ≡ n + 1 → retiring ≡ Some w
       → LinksStay turns starts pool (record { number = n; current = w; before = before })
       (record { number = m; current = current; before = retiring })
@@ -127,14 +129,14 @@ module _ {P : Type 0} (turns : TransitionRelation P) (starts : Stage SystemState
       subst (λ (k : ℕ). LinksStay turns starts pool (record { number = n; current = w; before = before })
       (record { number = k; current = current; before = retiring })) (sym more)
       (subst
-      (λ (b : Option (Stage SystemState P)). LinksStay turns starts pool
+      (λ (b : Option (WorldState SystemState P)). LinksStay turns starts pool
       (record { number = n; current = w; before = before })
       (record { number = n + 1; current = current; before = b })) (sym is)
       (links_renewed n w current before))
 
   -- ---- a step of one connection
 
-  own_current : (b e : Bool) (w after : Stage SystemState P) (before : Option (Stage SystemState P)) (c : ℕ)
+  own_current : (b e : Bool) (w after : WorldState SystemState P) (before : Option (WorldState SystemState P)) (c : ℕ)
       (came sent more next : List ℕ) (gone last : Bool) → b ≡ true
       → VisitsAdvance turns starts pool c more next last w after
       → IsVisitOf turns starts pool (which b e w before) c came sent gone
@@ -142,7 +144,8 @@ module _ {P : Type 0} (turns : TransitionRelation P) (starts : Stage SystemState
   own_current true e w after before c came sent more next gone last is goes v = goes.own came sent gone v
   own_current false e w after before c came sent more next gone last is goes v = absurd (cc (is))
 
-  other_current : (b e : Bool) (w after : Stage SystemState P) (before : Option (Stage SystemState P)) (d c : ℕ)
+  other_current : (b e : Bool) (w after : WorldState SystemState P) (before : Option (WorldState SystemState P))
+      (d c : ℕ)
       (came sent more next : List ℕ) (gone last : Bool) → (b ≡ true → d ≢ c)
       → VisitsAdvance turns starts pool d more next last w after
       → IsVisitOf turns starts pool (which b e w before) c came sent gone
@@ -151,7 +154,8 @@ module _ {P : Type 0} (turns : TransitionRelation P) (starts : Stage SystemState
       goes.others c came sent gone (apart refl) v
   other_current false e w after before d c came sent more next gone last apart goes v = v
 
-  pub link_current : (n : ℕ) (w after : Stage SystemState P) (before : Option (Stage SystemState P)) (d : Link)
+  pub link_current : (n : ℕ) (w after : WorldState SystemState P) (before : Option (WorldState SystemState P))
+      (d : Link)
       (more next : List ℕ) (last : Bool) → (d.generation == n) ≡ true
       → VisitsAdvance turns starts pool d.conn more next last w after
       → LinkProceeds turns starts pool d more next last (record { number = n; current = w; before = before })
@@ -163,7 +167,8 @@ module _ {P : Type 0} (turns : TransitionRelation P) (starts : Stage SystemState
         l.conn came sent more next gone last (λ of. conns_differ d l n apart is of) goes v;
   }
 
-  own_before : (b e : Bool) (w u after : Stage SystemState P) (c : ℕ) (came sent more next : List ℕ) (gone last : Bool)
+  own_before : (b e : Bool) (w u after : WorldState SystemState P) (c : ℕ) (came sent more next : List ℕ)
+      (gone last : Bool)
       → b ≡ false → e ≡ true
       → VisitsAdvance turns starts pool c more next last u after
       → IsVisitOf turns starts pool (which b e w (Some u)) c came sent gone
@@ -172,7 +177,7 @@ module _ {P : Type 0} (turns : TransitionRelation P) (starts : Stage SystemState
   own_before false false w u after c came sent more next gone last off is goes v = absurd (cc (is))
   own_before true e w u after c came sent more next gone last off is goes v = absurd (cc (off))
 
-  other_before : (b e : Bool) (w u after : Stage SystemState P) (d c : ℕ) (came sent more next : List ℕ)
+  other_before : (b e : Bool) (w u after : WorldState SystemState P) (d c : ℕ) (came sent more next : List ℕ)
       (gone last : Bool) → (e ≡ true → d ≢ c)
       → VisitsAdvance turns starts pool d more next last u after
       → IsVisitOf turns starts pool (which b e w (Some u)) c came sent gone
@@ -182,7 +187,7 @@ module _ {P : Type 0} (turns : TransitionRelation P) (starts : Stage SystemState
       goes.others c came sent gone (apart refl) v
   other_before false false w u after d c came sent more next gone last apart goes v = v
 
-  pub link_before : (n : ℕ) (w u after : Stage SystemState P) (d : Link) (more next : List ℕ) (last : Bool)
+  pub link_before : (n : ℕ) (w u after : WorldState SystemState P) (d : Link) (more next : List ℕ) (last : Bool)
       → (d.generation == n) ≡ false → (d.generation + 1 == n) ≡ true
       → VisitsAdvance turns starts pool d.conn more next last u after
       → LinkProceeds turns starts pool d more next last (record { number = n; current = w; before = Some u })
@@ -216,12 +221,12 @@ module _ {P : Type 0} (turns : TransitionRelation P) (starts : Stage SystemState
 
 -- ---- the connection of a client that may have none
 
-module _ {P : Type 0} (turns : TransitionRelation P) (starts : Stage SystemState P → Type 0) where
+module _ {P : Type 0} (turns : TransitionRelation P) (starts : WorldState SystemState P → Type 0) where
   pub slot_same : (pool : ℕ) (s : Serving P) (o : Option Link) → SlotProceeds turns starts pool o [] [] false s s
   slot_same pool s None = links_same turns starts pool s
   slot_same pool s (Some d) = link_same turns starts pool s d
 
-  pub slot_current : (pool n : ℕ) (w after : Stage SystemState P) (before : Option (Stage SystemState P))
+  pub slot_current : (pool n : ℕ) (w after : WorldState SystemState P) (before : Option (WorldState SystemState P))
       (o : Option Link) (d : Link) (e : ℕ) (more next : List ℕ) (last : Bool) → o ≡ Some d → e ≡ d.conn
       → (d.generation == n) ≡ true → VisitsAdvance turns starts pool e more next last w after
       → SlotProceeds turns starts pool o more next last (record { number = n; current = w; before = before })
@@ -234,7 +239,7 @@ module _ {P : Type 0} (turns : TransitionRelation P) (starts : Stage SystemState
       (link_current turns starts pool n w after before d more next last is
       (subst (λ (k : ℕ). VisitsAdvance turns starts pool k more next last w after) same goes))
 
-  pub slot_before : (pool n : ℕ) (w u after : Stage SystemState P) (before : Option (Stage SystemState P))
+  pub slot_before : (pool n : ℕ) (w u after : WorldState SystemState P) (before : Option (WorldState SystemState P))
       (o : Option Link) (d : Link) (e : ℕ) (more next : List ℕ) (last : Bool) → o ≡ Some d → e ≡ d.conn
       → before ≡ Some u
       → (d.generation == n) ≡ false → (d.generation + 1 == n) ≡ true
@@ -242,7 +247,7 @@ module _ {P : Type 0} (turns : TransitionRelation P) (starts : Stage SystemState
       → SlotProceeds turns starts pool o more next last (record { number = n; current = w; before = before })
       (record { number = n; current = w; before = Some after })
   slot_before pool n w u after before o d e more next last has same there off is goes =
-      subst (λ (b : Option (Stage SystemState P)). SlotProceeds turns starts pool o more next last
+      subst (λ (b : Option (WorldState SystemState P)). SlotProceeds turns starts pool o more next last
       (record { number = n; current = w; before = b }) (record { number = n; current = w; before = Some after }))
       (sym there)
       (subst
@@ -255,28 +260,31 @@ module _ {P : Type 0} (turns : TransitionRelation P) (starts : Stage SystemState
 -- ---- the end of a peer is reported
 
 module _ {P : Type 0} (turns : TransitionRelation P) where
-  ends_current : (b e : Bool) (w after : Stage SystemState P) (before : Option (Stage SystemState P)) (c : ℕ) (how : How)
+  ends_current : (b e : Bool) (w after : WorldState SystemState P) (before : Option (WorldState SystemState P)) (c : ℕ)
+      (how : How)
       → b ≡ true → EndsIn turns c how w after
       → ReportsEndIn turns (which b e w before) (which b e after before) c how
   ends_current true e w after before c how is ends = ends
   ends_current false e w after before c how is ends = absurd (cc (is))
 
-  ends_before : (b e : Bool) (w u after : Stage SystemState P) (c : ℕ) (how : How) → b ≡ false → e ≡ true
+  ends_before : (b e : Bool) (w u after : WorldState SystemState P) (c : ℕ) (how : How) → b ≡ false → e ≡ true
       → EndsIn turns c how u after
       → ReportsEndIn turns (which b e w (Some u)) (which b e w (Some after)) c how
   ends_before false true w u after c how off is ends = ends
   ends_before false false w u after c how off is ends = absurd (cc (is))
   ends_before true e w u after c how off is ends = absurd (cc (off))
 
-  ends_nowhere : (b e : Bool) (w : Stage SystemState P) (before : Option (Stage SystemState P)) (c : ℕ) (how : How)
+  ends_nowhere : (b e : Bool) (w : WorldState SystemState P) (before : Option (WorldState SystemState P)) (c : ℕ)
+      (how : How)
       → b ≡ false → (e ≡ true → before ≡ None)
       → ReportsEndIn turns (which b e w before) (which b e w before) c how
   ends_nowhere true e w before c how off none = absurd (cc (off))
   ends_nowhere false false w before c how off none = tt
   ends_nowhere false true w before c how off none =
-      subst (λ (k : Option (Stage SystemState P)). ReportsEndIn turns k k c how) (sym (none refl)) tt
+      subst (λ (k : Option (WorldState SystemState P)). ReportsEndIn turns k k c how) (sym (none refl)) tt
 
-  pub reports_current : (how : How) (n : ℕ) (w after : Stage SystemState P) (before : Option (Stage SystemState P))
+  pub reports_current : (how : How) (n : ℕ) (w after : WorldState SystemState P)
+      (before : Option (WorldState SystemState P))
       (o : Option Link) (d : Link) (e : ℕ) → o ≡ Some d → e ≡ d.conn → (d.generation == n) ≡ true
       → EndsIn turns e how w after
       → ReportsEnd turns o how (record { number = n; current = w; before = before })
@@ -288,14 +296,16 @@ module _ {P : Type 0} (turns : TransitionRelation P) where
       (ends_current (d.generation == n) (d.generation + 1 == n) w after before d.conn how is
       (subst (λ (k : ℕ). EndsIn turns k how w after) same ends))
 
-  pub reports_before : (how : How) (n : ℕ) (w u after : Stage SystemState P) (before : Option (Stage SystemState P))
+  pub reports_before : (how : How) (n : ℕ) (w u after : WorldState SystemState P)
+      (before : Option (WorldState SystemState P))
       (o : Option Link) (d : Link) (e : ℕ) → o ≡ Some d → e ≡ d.conn → before ≡ Some u
       → (d.generation == n) ≡ false → (d.generation + 1 == n) ≡ true → EndsIn turns e how u after
       → ReportsEnd turns o how (record { number = n; current = w; before = before })
       (record { number = n; current = w; before = Some after })
   reports_before how n w u after before o d e has same there off is ends =
       subst
-      (λ (b : Option (Stage SystemState P)). ReportsEnd turns o how (record { number = n; current = w; before = b })
+      (λ (b : Option (WorldState SystemState P)). ReportsEnd turns o how
+      (record { number = n; current = w; before = b })
       (record { number = n; current = w; before = Some after })) (sym there)
       (subst
       (λ (x : Option Link). ReportsEnd turns x how (record { number = n; current = w; before = Some u })
@@ -304,7 +314,7 @@ module _ {P : Type 0} (turns : TransitionRelation P) where
       (subst (λ (k : ℕ). EndsIn turns k how u after) same ends)))
 
   -- the world of the connection no longer serves
-  pub reports_nowhere : (how : How) (n : ℕ) (w : Stage SystemState P) (before : Option (Stage SystemState P))
+  pub reports_nowhere : (how : How) (n : ℕ) (w : WorldState SystemState P) (before : Option (WorldState SystemState P))
       (o : Option Link) (d : Link) → o ≡ Some d → (d.generation == n) ≡ false
       → ((d.generation + 1 == n) ≡ true → before ≡ None)
       → ReportsEnd turns o how (record { number = n; current = w; before = before })

@@ -4,7 +4,7 @@ use Rattle.std.specs.Prelude.{◌⊎◌, is_some}
 use Rattle.std.specs.Io.KnownBytes.{Appends, Keeps}
 use Rattle.iol_system.specs.Machine.{SystemState}
 use Rattle.iol_proc.specs.Turns.{TransitionRelation}
-use Rattle.iol_proc.specs.World.{Stage}
+use Rattle.iol_proc.specs.World.{WorldState}
 use Rattle.iol_sock.specs.Gathers.{IsCalled}
 use Rattle.iol_sock.proofs.GatherCalls.{kept}
 use Rattle.iol_reactor.specs.Bytes.{IsPassing, unsent_of}
@@ -45,7 +45,8 @@ module _ {S : Type 0} (supplied : S → Option (List ℕ)) where
       kept (λ (client : Client S) (offered : List ℕ) (taken : ℕ) (after : Client S). IsPassing supplied client after)
       (IsPassing supplied) passing_none passing_then (λ c offered taken d is. is) a b called
 
-module _ {P : Type 0} (turns : TransitionRelation P) (starts : Stage SystemState P → Type 0) (frames : List ℕ → Frame
+module _ {P : Type 0} (turns : TransitionRelation P) (starts : WorldState SystemState P → Type 0) (frames : List ℕ
+    → Frame
     → Type 0) (pool : ℕ) {S : Type 0} (gives takes : S → Option (List ℕ)) where
   -- the socket of a client accepted all of the world's output that it was offered
   pub passed_at : (s after : Serving P) (o p : Option Link) (sent : List ℕ) (c m d n : Client S)

@@ -11,7 +11,7 @@ use Rattle.std.proofs.lemmas.List.{append_cancel_left, drop-append-le, get_or-se
 use Rattle.std.proofs.lemmas.List.{take-append-drop}
 use Rattle.iol_system.specs.Machine.{SystemState}
 use Rattle.iol_proc.specs.Turns.{TransitionRelation}
-use Rattle.iol_proc.specs.World.{Stage}
+use Rattle.iol_proc.specs.World.{WorldState}
 use Rattle.iol_reactor.specs.Bytes.{Gains, Grows, IsBegun, IsFinished, IsGiven, Passes, PassesSome, unsent_of}
 use Rattle.iol_reactor.specs.Bytes.{waiting_of}
 use Rattle.iol_reactor.specs.Clients.{Holds, IsAsking, IsOpen, Visit, WereLeft, frame_as}
@@ -65,7 +65,7 @@ phase_cases : (at : Phase)
     → (is_free at ≡ true) ⊎ ((at ≡ phase.Answering) ⊎ ((is_ending at ≡ true) ⊎ (at ≡ phase.Over)))
 phase_cases phase.Parked = inl refl
 phase_cases phase.Waiting = inl refl
-phase_cases phase.Quiet = inl refl
+phase_cases phase.Idle = inl refl
 phase_cases phase.Leaving = inl refl
 phase_cases phase.Answering = inr (inl refl)
 phase_cases phase.Flushing = inr (inr (inl refl))
@@ -75,7 +75,7 @@ phase_cases phase.Over = inr (inr (inr refl))
 free_ends : (at : Phase) → is_free at ≡ true → is_ending at ≡ true → ⊥
 free_ends phase.Parked f e = cc e
 free_ends phase.Waiting f e = cc e
-free_ends phase.Quiet f e = cc e
+free_ends phase.Idle f e = cc e
 free_ends phase.Leaving f e = cc e
 free_ends phase.Answering f e = cc f
 free_ends phase.Flushing f e = cc f
@@ -184,7 +184,8 @@ up_to generation last l is = grind (arith, nat_tests, is)
 
 -- ---- the connections
 
-module _ {P : Type 0} (turns : TransitionRelation P) (starts : Stage SystemState P → Type 0) (frames : List ℕ → Frame
+module _ {P : Type 0} (turns : TransitionRelation P) (starts : WorldState SystemState P → Type 0) (frames : List ℕ
+    → Frame
     → Type 0) (pool : ℕ) where
   open_kept : (s after : Serving P) (l : Link) (came sent : List ℕ)
       → ((more next : List ℕ) → HasLinkVisited turns starts pool s l more next false
@@ -300,7 +301,7 @@ module _ {P : Type 0} (turns : TransitionRelation P) (starts : Stage SystemState
       (first l differ up came sent v)
 
   -- the last connection, in a state of its world
-  visit_of : (w : Option (Stage SystemState P)) (c : ℕ) (came sent : List ℕ)
+  visit_of : (w : Option (WorldState SystemState P)) (c : ℕ) (came sent : List ℕ)
       → IsVisitOf turns starts pool w c came sent false
       → (v : Visit P) × IsLast turns starts frames pool (Some v) came sent
   visit_of None c came sent v = (record { world = v.0; conn = c; came = came; sent = sent }, (refl, refl, v.1))
@@ -1046,12 +1047,12 @@ module _ {P : Type 0} (turns : TransitionRelation P) (starts : Stage SystemState
 
     pub answered_followed : (s : Serving P) (o : Option Link) (c n : Client S) → c.phase ≡ phase.Answering
         → c.input.asked ≤ c.input.given → c.is_last ≡ false → IsFinished c.input n.input → n.socket ≡ c.socket
-        → n.phase ≡ phase.Quiet → n.output ≡ c.output → Followed s o c → Followed s o n
+        → n.phase ≡ phase.Idle → n.output ≡ c.output → Followed s o c → Followed s o n
     answered_followed s o c n at all keeps is socket now output h =
-        followed_as s o n h.from h.to phase.Quiet n.is_last n.is_whole n.input (unsent_of c.output)
+        followed_as s o n h.from h.to phase.Idle n.is_last n.is_whole n.input (unsent_of c.output)
         (ap (λ k. gives k) socket ∙ h.supplies) (ap (λ k. takes k) socket ∙ h.accepts) now refl refl refl
         (ap (λ k. unsent_of k) output)
-        (in_free s o phase.Quiet n.is_last n.is_whole n.input (unsent_of c.output) h.from h.to refl
+        (in_free s o phase.Idle n.is_last n.is_whole n.input (unsent_of c.output) h.from h.to refl
         (between_answered s o c.is_last c.input n.input (unsent_of c.output) h.from h.to keeps all is (h.is.within at)))
 
     pub completed_followed : (s : Serving P) (o : Option Link) (done : Bool) (c n : Client S) → (done ≡ false → n ≡ c)
@@ -1059,7 +1060,7 @@ module _ {P : Type 0} (turns : TransitionRelation P) (starts : Stage SystemState
     completed_followed s o false c n waits is h =
         subst (λ (k : Client S). IsFollowed turns starts frames pool gives takes s o k) (sym (waits refl)) h
     completed_followed s o true c n waits is h =
-        (let d = is refl in answered_followed s o c n d.asking d.all d.keeps d.finished d.socket d.quiet d.output h)
+        (let d = is refl in answered_followed s o c n d.asking d.all d.keeps d.finished d.socket d.idle d.output h)
 
     -- the same, if the table of connections is unchanged
     pub leaves_at : (s after : Serving P) (o p : Option Link) (c n : Client S) → is_free c.phase ≡ true

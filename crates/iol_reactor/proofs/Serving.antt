@@ -12,7 +12,7 @@ use Rattle.iol_proc.specs.Laws.{KeepsHonesty}
 use Rattle.iol_proc.specs.Histories.{stream_over, sent_over}
 use Rattle.iol_proc.specs.Streams.{ArrivesAs}
 use Rattle.iol_proc.specs.Turns.{TransitionRelation}
-use Rattle.iol_proc.specs.World.{Stage, copied, copying, OutsideStep, TurnAt}
+use Rattle.iol_proc.specs.World.{WorldState, copied, copying, OutsideStep, TurnAt}
 use Rattle.iol_proc.specs.declared.activity.Activity.{Activity}
 use Rattle.iol_proc.specs.declared.choice.Choice.{Choice}
 use Rattle.iol_proc.specs.declared.choice.Choice.TheVariants as choice
@@ -41,10 +41,10 @@ serving-append pool [] ys first next = next
 serving-append pool (x ∷ xs) ys first next = (first.0, serving-append pool xs ys first.1 next)
 
 module _ {P : Type 0} (turns : TransitionRelation P) where
-  continues_none : (pool : ℕ) (w : Stage State P) → Continues turns pool w w
+  continues_none : (pool : ℕ) (w : WorldState State P) → Continues turns pool w w
   continues_none pool w = record { choices = []; replies = []; run = refl; serving = tt }
 
-  continues_then : (pool : ℕ) (w mid after : Stage State P) → Continues turns pool w mid
+  continues_then : (pool : ℕ) (w mid after : WorldState State P) → Continues turns pool w mid
       → Continues turns pool mid after → Continues turns pool w after
   continues_then pool w mid after a b = record {
     choices = a.choices ++ b.choices;
@@ -53,15 +53,15 @@ module _ {P : Type 0} (turns : TransitionRelation P) where
     serving = serving-append pool a.choices b.choices a.serving b.serving;
   }
 
-  pub continues_same : (pool : ℕ) (w after : Stage State P) → after ≡ w → Continues turns pool w after
+  pub continues_same : (pool : ℕ) (w after : WorldState State P) → after ≡ w → Continues turns pool w after
   continues_same pool w after same = record { choices = []; replies = []; run = same; serving = tt }
 
-  pub continues_on : (pool c : ℕ) (came sent : List ℕ) (gone : Bool) (w after : Stage State P)
+  pub continues_on : (pool c : ℕ) (came sent : List ℕ) (gone : Bool) (w after : WorldState State P)
       → Proceeds turns c came sent gone w after → Continues turns pool w after
   continues_on pool c came sent gone w after g =
       record { choices = g.choices; replies = g.replies; run = g.run; serving = serving_all pool c g.choices g.alone }
 
-  pub continues_new : (pool : ℕ) (r : Reply) (w after : Stage State P)
+  pub continues_new : (pool : ℕ) (r : Reply) (w after : WorldState State P)
       → OutsideStep copying turns w (event.ConnNew pool) r after → Continues turns pool w after
   continues_new pool r w after step =
       record {
@@ -72,7 +72,7 @@ module _ {P : Type 0} (turns : TransitionRelation P) where
       }
 
   -- a turn of one process
-  pub goes_turn_at : (c place : ℕ) (a : Option Activity) (w after : Stage State P)
+  pub goes_turn_at : (c place : ℕ) (a : Option Activity) (w after : WorldState State P)
       → TurnAt copying turns w place a after → Proceeds turns c [] [] false w after
   unfolding stream_over sent_over
   goes_turn_at c place None w after t = goes_none turns c w after t.1
@@ -88,20 +88,21 @@ module _ {P : Type 0} (turns : TransitionRelation P) where
 
   -- bytes that arrive
 
-  pub arrives_none : (c : ℕ) (bytes : List ℕ) (w : Stage State P) → Arrives turns c bytes bytes w w
+  pub arrives_none : (c : ℕ) (bytes : List ℕ) (w : WorldState State P) → Arrives turns c bytes bytes w w
   arrives_none c bytes w = record { came = []; split = refl; proceeds = goes_none turns c w w refl }
 
-  pub arrives_refused : (c : ℕ) (bytes rest : List ℕ) (w after : Stage State P) → rest ≡ bytes → after ≡ w
+  pub arrives_refused : (c : ℕ) (bytes rest : List ℕ) (w after : WorldState State P) → rest ≡ bytes → after ≡ w
       → Arrives turns c bytes rest w after
   arrives_refused c bytes rest w after still same =
       record { came = []; split = sym still; proceeds = goes_none turns c w after same }
 
-  pub arrives_page : (c n : ℕ) (bytes rest came : List ℕ) (w after : Stage State P) → bytes ≡ came ++ rest
+  pub arrives_page : (c n : ℕ) (bytes rest came : List ℕ) (w after : WorldState State P) → bytes ≡ came ++ rest
       → length came ≡ n → ArrivesAs turns c n came w after → Arrives turns c bytes rest w after
   arrives_page c n bytes rest came w after split count step =
       record { came = came; split = split; proceeds = goes_arrived turns c n came w after count step }
 
-  pub arrives_then : (c : ℕ) (bytes more rest : List ℕ) (w mid after : Stage State P) → Arrives turns c bytes more w mid
+  pub arrives_then : (c : ℕ) (bytes more rest : List ℕ) (w mid after : WorldState State P)
+      → Arrives turns c bytes more w mid
       → Arrives turns c more rest mid after → Arrives turns c bytes rest w after
   arrives_then c bytes more rest w mid after a b = record {
     came = a.came ++ b.came;
@@ -110,11 +111,11 @@ module _ {P : Type 0} (turns : TransitionRelation P) where
   }
 
   -- a peer that has ended
-  pub ends_reported : (c : ℕ) (how : How) (r : Reply) (w after : Stage State P)
+  pub ends_reported : (c : ℕ) (how : How) (r : Reply) (w after : WorldState State P)
       → OutsideStep copying turns w (event.PeerClosed c how) r after → Ends turns c how w after
   ends_reported c how r w after step = record { reply = r; step = step }
 
-  served_first : (starts : Stage SystemState P → Type 0) (pool : ℕ) (w : Stage SystemState P) → starts w
+  served_first : (starts : WorldState SystemState P → Type 0) (pool : ℕ) (w : WorldState SystemState P) → starts w
       → HasServed turns starts pool w
   served_first starts pool w started =
       record {
@@ -124,7 +125,7 @@ module _ {P : Type 0} (turns : TransitionRelation P) where
         continues = λ honest. continues_none pool (copied w);
       }
 
-  served_next : (starts : Stage SystemState P → Type 0) (pool : ℕ) (w after : Stage SystemState P)
+  served_next : (starts : WorldState SystemState P → Type 0) (pool : ℕ) (w after : WorldState SystemState P)
       → KeepsHonesty w.machine after.machine
       → IfHonest w.machine.disk (Continues turns pool (copied w) (copied after)) → HasServed turns starts pool w
       → HasServed turns starts pool after
@@ -137,11 +138,11 @@ module _ {P : Type 0} (turns : TransitionRelation P) where
   }
 
   -- the same, without the witness
-  pub began : (starts : Stage SystemState P → Type 0) (pool : ℕ) (w : Stage SystemState P) → starts w
+  pub began : (starts : WorldState SystemState P → Type 0) (pool : ℕ) (w : WorldState SystemState P) → starts w
       → ∥ HasServed turns starts pool w ∥₁
   began starts pool w started = ∣ served_first starts pool w started ∣₁
 
-  pub proceeds : (starts : Stage SystemState P → Type 0) (pool : ℕ) (w after : Stage SystemState P)
+  pub proceeds : (starts : WorldState SystemState P → Type 0) (pool : ℕ) (w after : WorldState SystemState P)
       → KeepsHonesty w.machine after.machine
       → IfHonest w.machine.disk (Continues turns pool (copied w) (copied after)) → ∥ HasServed turns starts pool w ∥₁
       → ∥ HasServed turns starts pool after ∥₁

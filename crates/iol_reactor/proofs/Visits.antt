@@ -19,7 +19,7 @@ use Rattle.iol_system.specs.Machine.{SystemState, machine_of, tables_of}
 use Rattle.iol_system.specs.Prelude.{read_of, state_view}
 use Rattle.iol_proc.specs.Laws.{KeepsHonesty}
 use Rattle.iol_proc.specs.Turns.{TransitionRelation}
-use Rattle.iol_proc.specs.World.{Stage, copied, copying, OutsideStep}
+use Rattle.iol_proc.specs.World.{WorldState, copied, copying, OutsideStep}
 use Rattle.iol_proc.specs.declared.choice.Choice.{Choice}
 use Rattle.iol_proc.specs.declared.choice.Choice.TheVariants as choice
 use Rattle.iol_proc.proofs.Streams.{runs_follow, stream_over-append, sent_over-append}
@@ -92,7 +92,7 @@ or-false true = refl
 or-false false = refl
 
 module _ {P : Type 0} (turns : TransitionRelation P) where
-  carries_none : (pool c : ℕ) (w : Stage State P) → Carries turns pool c [] [] false w w
+  carries_none : (pool c : ℕ) (w : WorldState State P) → Carries turns pool c [] [] false w w
   unfolding stream_over sent_over
   carries_none pool c w = record {
     continues = record { choices = []; replies = []; run = refl; serving = tt };
@@ -101,7 +101,7 @@ module _ {P : Type 0} (turns : TransitionRelation P) where
     reports = refl;
   }
 
-  carries_then : (pool c : ℕ) (came sent more next : List ℕ) (gone last : Bool) (w mid after : Stage State P)
+  carries_then : (pool c : ℕ) (came sent more next : List ℕ) (gone last : Bool) (w mid after : WorldState State P)
       → Carries turns pool c came sent gone w mid
       → Carries turns pool c more next last mid after
       → Carries turns pool c (came ++ more) (sent ++ next) (gone || last) w after
@@ -126,7 +126,7 @@ module _ {P : Type 0} (turns : TransitionRelation P) where
         ∙ ap (λ (t : Bool). gone || t) b.reports);
   }
 
-  pub carries_own : (pool c : ℕ) (came sent : List ℕ) (gone : Bool) (w after : Stage State P)
+  pub carries_own : (pool c : ℕ) (came sent : List ℕ) (gone : Bool) (w after : WorldState State P)
       → Proceeds turns c came sent gone w after → Carries turns pool c came sent gone w after
   carries_own pool c came sent gone w after g =
       record {
@@ -141,7 +141,7 @@ module _ {P : Type 0} (turns : TransitionRelation P) where
         reports = g.reports;
       }
 
-  carries_other : (pool c d : ℕ) (came sent : List ℕ) (gone : Bool) (w after : Stage State P) → d ≢ c
+  carries_other : (pool c d : ℕ) (came sent : List ℕ) (gone : Bool) (w after : WorldState State P) → d ≢ c
       → Proceeds turns d came sent gone w after → Carries turns pool c [] [] false w after
   carries_other pool c d came sent gone w after apart g = record {
     continues = record {
@@ -155,7 +155,7 @@ module _ {P : Type 0} (turns : TransitionRelation P) where
     reports = all_drops_other d c g.choices apart g.alone;
   }
 
-  pub carries_made : (pool c : ℕ) (r : Reply) (w after : Stage State P)
+  pub carries_made : (pool c : ℕ) (r : Reply) (w after : WorldState State P)
       → OutsideStep copying turns w (event.ConnNew pool) r after → Carries turns pool c [] [] false w after
   unfolding stream_over sent_over
   carries_made pool c r w after step =
@@ -171,7 +171,7 @@ module _ {P : Type 0} (turns : TransitionRelation P) where
         reports = refl;
       }
 
-  visits_then : (pool c : ℕ) (came sent more next : List ℕ) (gone last : Bool) (begun w after : Stage State P)
+  visits_then : (pool c : ℕ) (came sent more next : List ℕ) (gone last : Bool) (begun w after : WorldState State P)
       → Visits turns pool c came sent gone begun w
       → Carries turns pool c more next last w after
       → Visits turns pool c (came ++ more) (sent ++ next) (gone || last) begun after
@@ -184,7 +184,7 @@ module _ {P : Type 0} (turns : TransitionRelation P) where
   }
 
   -- a step without bytes on it
-  visits_still : (pool c : ℕ) (came sent : List ℕ) (gone : Bool) (begun w after : Stage State P)
+  visits_still : (pool c : ℕ) (came sent : List ℕ) (gone : Bool) (begun w after : WorldState State P)
       → Visits turns pool c came sent gone begun w
       → Carries turns pool c [] [] false w after → Visits turns pool c came sent gone begun after
   visits_still pool c came sent gone begun w after v more =
@@ -217,10 +217,11 @@ lacks_same m c = refl
 
 -- ---- histories in a world over a store, which may be dishonest
 
-module _ {P : Type 0} (turns : TransitionRelation P) (starts : Stage SystemState P → Type 0) (pool : ℕ) where
-  visited_next : (c : ℕ) (came sent more next : List ℕ) (gone last : Bool) (w after : Stage SystemState P)
+module _ {P : Type 0} (turns : TransitionRelation P) (starts : WorldState SystemState P → Type 0) (pool : ℕ) where
+  visited_next : (c : ℕ) (came sent more next : List ℕ) (gone last : Bool) (w after : WorldState SystemState P)
       → KeepsHonesty w.machine after.machine
-      → ((begun : Stage State P) → w.machine.disk.honest ≡ true → Visits turns pool c came sent gone begun (copied w)
+      → ((begun : WorldState State P) → w.machine.disk.honest ≡ true
+      → Visits turns pool c came sent gone begun (copied w)
       → Visits turns pool c more next last begun (copied after))
       → HasVisited turns starts pool c came sent gone w → HasVisited turns starts pool c more next last after
   visited_next c came sent more next gone last w after kept goes v = record {
@@ -231,7 +232,7 @@ module _ {P : Type 0} (turns : TransitionRelation P) (starts : Stage SystemState
   }
 
   -- nothing arrives and nothing is sent on any connection
-  pub visits_stay : (w after : Stage SystemState P) → KeepsHonesty w.machine after.machine
+  pub visits_stay : (w after : WorldState SystemState P) → KeepsHonesty w.machine after.machine
       → ((c : ℕ) → IfHonest w.machine.disk (Carries turns pool c [] [] false (copied w) (copied after)))
       → VisitsStay turns starts pool w after
   visits_stay w after kept carries = λ c came sent gone v. visited_next c came sent came sent gone gone w after kept
@@ -239,14 +240,16 @@ module _ {P : Type 0} (turns : TransitionRelation P) (starts : Stage SystemState
       (carries c honest)) v
 
   -- the same world, in terms of the copying machine
-  pub visits_same : (w after : Stage SystemState P) → KeepsHonesty w.machine after.machine → copied after ≡ copied w
+  pub visits_same : (w after : WorldState SystemState P) → KeepsHonesty w.machine after.machine
+      → copied after ≡ copied w
       → VisitsStay turns starts pool w after
   visits_same w after kept same =
-      visits_stay w after kept (λ c honest. subst (λ (v : Stage State P). Carries turns pool c [] [] false (copied w) v)
+      visits_stay w after kept
+      (λ c honest. subst (λ (v : WorldState State P). Carries turns pool c [] [] false (copied w) v)
       (sym same) (carries_none turns pool c (copied w)))
 
   -- turns, and events of d
-  pub visits_advance : (d : ℕ) (more next : List ℕ) (last : Bool) (w after : Stage SystemState P)
+  pub visits_advance : (d : ℕ) (more next : List ℕ) (last : Bool) (w after : WorldState SystemState P)
       → KeepsHonesty w.machine after.machine
       → IfHonest w.machine.disk (Proceeds turns d more next last (copied w) (copied after))
       → VisitsAdvance turns starts pool d more next last w after
@@ -260,7 +263,7 @@ module _ {P : Type 0} (turns : TransitionRelation P) (starts : Stage SystemState
   }
 
   -- the first bytes arrive on d
-  pub visits_arrive : (d : ℕ) (bytes rest came : List ℕ) (w after : Stage SystemState P)
+  pub visits_arrive : (d : ℕ) (bytes rest came : List ℕ) (w after : WorldState SystemState P)
       → KeepsHonesty w.machine after.machine
       → bytes ≡ came ++ rest → IfHonest w.machine.disk (Arrives turns d bytes rest (copied w) (copied after))
       → VisitsArrive turns starts pool d bytes rest w after
@@ -274,7 +277,7 @@ module _ {P : Type 0} (turns : TransitionRelation P) (starts : Stage SystemState
   )
 
   -- a new connection
-  pub visits_begin : (c : ℕ) (w after : Stage SystemState P) → KeepsHonesty w.machine after.machine
+  pub visits_begin : (c : ℕ) (w after : WorldState SystemState P) → KeepsHonesty w.machine after.machine
       → IfHonest w.machine.disk (OutsideStep copying turns (copied w) (event.ConnNew pool) (reply.Conn c)
       (copied after))
       → ∥ HasServed turns starts pool w ∥₁ → ∥ HasVisited turns starts pool c [] [] false after ∥₁

@@ -5,7 +5,7 @@ use Rattle.std.specs.List.{AllByRecursion, concat}
 use Rattle.iol_core.specs.Calls.Outside.{lacks_conn}
 use Rattle.iol_system.specs.Machine.{SystemState}
 use Rattle.iol_proc.specs.Turns.{TransitionRelation}
-use Rattle.iol_proc.specs.World.{Stage, copied}
+use Rattle.iol_proc.specs.World.{WorldState, copied}
 use Rattle.iol_reactor.specs.Bytes.{IsBegun, IsGiven}
 use Rattle.iol_reactor.specs.Visits.{HasVisited}
 use Rattle.iol_reactor.specs.LinkVisits.{HasLinkVisited, IsOver, LinkProceeds, LinksStay, Serving}
@@ -66,12 +66,13 @@ frame_as is_last size = if is_last then Last size else Complete size
 
 -- A connection, in a state of its world: the bytes received and sent on it.
 pub record Visit (P : Type 0) : Type 0 where
-  pub world : Stage SystemState P
+  pub world : WorldState SystemState P
   pub conn : ℕ
   pub came : List ℕ
   pub sent : List ℕ
 
-module _ {P : Type 0} (turns : TransitionRelation P) (starts : Stage SystemState P → Type 0) (frames : List ℕ → Frame
+module _ {P : Type 0} (turns : TransitionRelation P) (starts : WorldState SystemState P → Type 0) (frames : List ℕ
+    → Frame
     → Type 0) (pool : ℕ) where
   -- The bytes are those of requests, each of which keeps its connection.
   pub record AreWhole (came : List ℕ) : Type 0 where
@@ -160,7 +161,7 @@ module _ {P : Type 0} (turns : TransitionRelation P) (starts : Stage SystemState
         → IsAsking s l false input came sent → IsOpen s l came sent
     -- the processes closed it
     pub left : (s : Serving P) (l : Link) (came sent : List ℕ) → IsOver (Some l) s → IsOpen s l came sent
-        → (w : Stage SystemState P) × IsLeft (record { world = w; conn = l.conn; came = came; sent = sent })
+        → (w : WorldState SystemState P) × IsLeft (record { world = w; conn = l.conn; came = came; sent = sent })
     pub closed : (s : Serving P) (l : Link) (input : Input) (came sent : List ℕ) → input.asked ≤ input.given
         → IsOver (Some l) s → IsAsking s l true input came sent
-        → (w : Stage SystemState P) × IsClosed (record { world = w; conn = l.conn; came = came; sent = sent })
+        → (w : WorldState SystemState P) × IsClosed (record { world = w; conn = l.conn; came = came; sent = sent })

@@ -3,7 +3,7 @@ use Rattle.std.specs.Prelude.{◌≡◌, ◌≤◌, ◌<◌, ◌+◌, ℕ, Optio
 use Rattle.iol_core.specs.declared.descriptors.How.{How}
 use Rattle.iol_system.specs.Machine.{SystemState}
 use Rattle.iol_proc.specs.Turns.{TransitionRelation}
-use Rattle.iol_proc.specs.World.{Stage, TurnAt, sharing}
+use Rattle.iol_proc.specs.World.{WorldState, TurnAt, sharing}
 use Rattle.iol_proc.specs.declared.activity.Activity.{Activity}
 use Rattle.iol_reactor.specs.LinkVisits.{Serving, world_of}
 use Rattle.iol_reactor.specs.Serving.{EndsIn}
@@ -23,7 +23,7 @@ module _ {P : Type 0} (turns : TransitionRelation P) where
     pub none : length s.current.process_slots ≤ place → s.before ≡ None → activity ≡ None
 
   -- The end of the peer of this connection is reported in its world, if that serves.
-  abbrev pub ReportsEndIn : (w after : Option (Stage SystemState P)) (c : ℕ) → How → Type 0
+  abbrev pub ReportsEndIn : (w after : Option (WorldState SystemState P)) (c : ℕ) → How → Type 0
   ReportsEndIn None after c how = ⊤
   ReportsEndIn (Some w) None c how = ⊥
   ReportsEndIn (Some w) (Some u) c how = EndsIn turns c how w u

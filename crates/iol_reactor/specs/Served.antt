@@ -3,7 +3,7 @@ use Rattle.std.specs.Prelude.{◌≡◌, ◌≤◌, ◌⊎◌, ℕ, Bool, true, 
 use Rattle.std.specs.Prelude.{⊤, IsTrue, IsFalse}
 use Rattle.iol_system.specs.Machine.{SystemState}
 use Rattle.iol_proc.specs.Turns.{TransitionRelation}
-use Rattle.iol_proc.specs.World.{Stage}
+use Rattle.iol_proc.specs.World.{WorldState}
 use Rattle.iol_reactor.specs.Bytes.{IsFinished, unsent_of, waiting_of}
 use Rattle.iol_reactor.specs.Clients.{Holds, IsAsking, IsClosed, IsOpen, Visit, WereLeft}
 use Rattle.iol_reactor.specs.Connections.{link_at}
@@ -31,7 +31,7 @@ IsEmpty (Some bytes) = bytes ≡ []
 abbrev pub is_free : Phase → Bool
 is_free phase.Parked = true
 is_free phase.Waiting = true
-is_free phase.Quiet = true
+is_free phase.Idle = true
 is_free phase.Leaving = true
 is_free phase.Answering = false
 is_free phase.Flushing = false
@@ -42,14 +42,15 @@ is_free phase.Over = false
 abbrev pub is_ending : Phase → Bool
 is_ending phase.Parked = false
 is_ending phase.Waiting = false
-is_ending phase.Quiet = false
+is_ending phase.Idle = false
 is_ending phase.Leaving = false
 is_ending phase.Answering = false
 is_ending phase.Flushing = true
 is_ending phase.Closing = true
 is_ending phase.Over = false
 
-module _ {P : Type 0} (turns : TransitionRelation P) (starts : Stage SystemState P → Type 0) (frames : List ℕ → Frame
+module _ {P : Type 0} (turns : TransitionRelation P) (starts : WorldState SystemState P → Type 0) (frames : List ℕ
+    → Frame
     → Type 0) (pool : ℕ) where
   -- The bytes on the last connection, in a state of its world, if there was one.
   abbrev pub IsLast : Option (Visit P) → (came sent : List ℕ) → Type 0
@@ -177,7 +178,7 @@ pub record IsCompleted {S : Type 0} (c next : Client S) : Type 0 where
   pub keeps : IsFalse c.is_last
   pub all : c.input.asked ≤ c.input.given
   pub finished : IsFinished c.input next.input
-  pub quiet : next.phase ≡ phase.Quiet
+  pub idle : next.phase ≡ phase.Idle
   pub socket : next.socket ≡ c.socket
   pub output : next.output ≡ c.output
 

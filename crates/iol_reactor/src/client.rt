@@ -26,7 +26,7 @@ pub enum Phase {
     Waiting,
 
     /// It has a connection, and no request in progress.
-    Quiet,
+    Idle,
 
     /// A request was handed in, at least in part, and its response is not complete.
     Answering,

@@ -79,7 +79,7 @@ impl<S: Socket + Drop, B: Backing + Drop, P: Process, V: Service<B, P>> Places<S
         Step::Pending
     }
 
-    // If the response of the client in this place was sent whole, the client is quiet, and its next
+    // If the response of the client in this place was sent whole, the client is idle, and its next
     // request may be handed in.
     fn complete(&mut self, slot: usize, service: &mut V, moment: Moment) -> bool {
         if slot >= self.clients.len() {
@@ -271,7 +271,7 @@ fn is_answering(phase: Phase) -> bool
     matches!(phase, Phase::Answering)
 }
 
-// If a response was sent whole, the client is quiet.
+// If a response was sent whole, the client is idle.
 fn complete<S: Socket, B: Backing + Drop, P: Process, V: Service<B, P>>(
     client: &mut Client<S>,
     service: &mut V,
@@ -285,7 +285,7 @@ fn complete<S: Socket, B: Backing + Drop, P: Process, V: Service<B, P>>(
     }
     service.record(&client.exchange(true));
     client.finish(moment.now);
-    client.set_phase(Phase::Quiet);
+    client.set_phase(Phase::Idle);
     true
 }
 

@@ -10,13 +10,13 @@ use iol_proc::process::Process;
 use std::alloc::AllocError;
 
 impl<S: Socket + Drop, B: Backing + Drop, P: Process, V: Service<B, P>> Engine<S, B, P, V> {
-    /// Ends the clients that broke a limit, and takes their connections from quiet clients.
+    /// Ends the clients that broke a limit, and takes their connections from idle clients.
     pub fn expire(&mut self, service: &mut V) -> Result<(), AllocError> {
         self.end_silent(service)?;
         self.end_incomplete(service)?;
         self.end_slow(service)?;
         self.end_drained(service)?;
-        self.park_quiet()
+        self.park_idle()
     }
 
     // Ends the clients that were silent between requests for too long.
@@ -102,9 +102,9 @@ impl<S: Socket + Drop, B: Backing + Drop, P: Process, V: Service<B, P>> Engine<S
         Ok(())
     }
 
-    // Takes the connections of clients that are quiet for some time; if others wait for a
-    // connection, of all that are quiet.
-    fn park_quiet(&mut self) -> Result<(), AllocError> {
+    // Takes the connections of clients that are idle for some time; if others wait for a
+    // connection, of all that are idle.
+    fn park_idle(&mut self) -> Result<(), AllocError> {
         let is_full = !self.waiting.is_empty();
         let now = self.now();
         for _ in 0..self.timers.parks.len() {
@@ -121,12 +121,12 @@ impl<S: Socket + Drop, B: Backing + Drop, P: Process, V: Service<B, P>> Engine<S
         Ok(())
     }
 
-    // Takes a client's connection if it is quiet, or checks it again later.
+    // Takes a client's connection if it is idle, or checks it again later.
     fn park(&mut self, key: Key, is_full: bool) -> Result<(), AllocError> {
         let now = self.now();
         let most = self.limits.park_millis;
         let has_link = self.worlds().has_link(key.slot);
-        let is_quiet = self.is_quiet(key.slot, now, if is_full { 0 } else { most });
+        let is_idle_for = self.is_idle_for(key.slot, now, if is_full { 0 } else { most });
         let Some(marks) = self.marks(key) else {
             return Ok(());
         };
@@ -134,7 +134,7 @@ impl<S: Socket + Drop, B: Backing + Drop, P: Process, V: Service<B, P>> Engine<S
             marks.armed.park = false;
             return Ok(());
         }
-        if is_quiet && !marks.is_ready {
+        if is_idle_for && !marks.is_ready {
             marks.armed.park = false;
             self.places.leave(key.slot);
             self.is_moved = true;
@@ -168,10 +168,10 @@ impl<S: Socket + Drop, B: Backing + Drop, P: Process, V: Service<B, P>> Engine<S
         }
     }
 
-    // Whether the client in this place is quiet, and was silent for this time.
-    fn is_quiet(&self, slot: usize, now: u64, most: u64) -> bool {
+    // Whether the client in this place is idle, and was silent for this time.
+    fn is_idle_for(&self, slot: usize, now: u64, most: u64) -> bool {
         match self.places.get(slot) {
-            Some(client) => client.phase() == Phase::Quiet && client.silence(now) >= most,
+            Some(client) => client.phase() == Phase::Idle && client.silence(now) >= most,
             None => false,
         }
     }
@@ -189,5 +189,5 @@ impl<S: Socket + Drop, B: Backing + Drop, P: Process, V: Service<B, P>> Engine<S
 
 // Whether a client is between two requests, and has sent nothing of the next one.
 fn is_between<S: Socket>(client: &Client<S>) -> bool {
-    matches!(client.phase(), Phase::Parked | Phase::Quiet) && client.next().is_empty()
+    matches!(client.phase(), Phase::Parked | Phase::Idle) && client.next().is_empty()
 }

@@ -7,7 +7,7 @@ pub struct Limits {
     pub max_clients: usize,
 
     /// The number of clients that have a connection of a world at once. The others wait for one of
-    /// them to be quiet.
+    /// them to be idle.
     pub live: usize,
 
     /// A client's request is complete within this time after its first byte, or after the response
@@ -25,7 +25,7 @@ pub struct Limits {
     /// After the last byte was sent, the peer's end is awaited for this time.
     pub drain_millis: u64,
 
-    /// A client that is quiet for this time gives back its connection of the world.
+    /// A client that is idle for this time gives back its connection of the world.
     pub park_millis: u64,
 
     /// The service ends when this number of clients has come and gone. None: it never ends.
@@ -58,7 +58,7 @@ pub const EVENTS: usize = 256;
 /// has passed at the end of a time slice that is not of the first process.
 pub const RUN_MICROS: u64 = 1_000;
 
-/// The time slice of a process: it has turns until it is quiet, or for this time.
+/// The time slice of a process: it has turns until it is idle, or for this time.
 pub const SLICE_MICROS: u64 = 500;
 
 /// The clock is read after each turn in which a process acted; for the first one, which serves the

@@ -370,5 +370,5 @@ fn is_open(phase: Phase) -> bool
 fn is_between(phase: Phase) -> bool
     ensures { result ≡ true → is_free phase ≡ true }
 {
-    matches!(phase, Phase::Parked | Phase::Quiet)
+    matches!(phase, Phase::Parked | Phase::Idle)
 }

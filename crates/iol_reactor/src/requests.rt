@@ -28,7 +28,7 @@ impl<S: Socket + Drop, B: Backing + Drop, P: Process, V: Service<B, P>> Engine<S
             return Ok(());
         }
         match self.places.phase(slot) {
-            Phase::Parked | Phase::Quiet => self.ask(slot, service),
+            Phase::Parked | Phase::Idle => self.ask(slot, service),
             Phase::Answering => {
                 self.give(slot);
                 Ok(())

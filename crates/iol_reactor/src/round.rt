@@ -13,7 +13,7 @@ use std::mem;
 
 impl<S: Socket + Drop, B: Backing + Drop, P: Process, V: Service<B, P>> Engine<S, B, P, V> {
     /// A round: hands in complete requests, gives the processes this number of turns at most, and
-    /// sends their output. A process has turns until it is quiet, so one that acts without end
+    /// sends their output. A process has turns until it is idle, so one that acts without end
     /// leaves none to the others.
     pub fn round(&mut self, turns: usize, service: &mut V) -> Result<(), AllocError> {
         if self.begin_round(service)? {
@@ -167,8 +167,8 @@ impl<S: Socket + Drop, B: Backing + Drop, P: Process, V: Service<B, P>> Engine<S
         };
         match client.phase() {
             Phase::Over => Step::Over,
-            Phase::Parked | Phase::Quiet if client.may_read() => Step::Again,
-            Phase::Parked | Phase::Quiet | Phase::Waiting => Step::Rests,
+            Phase::Parked | Phase::Idle if client.may_read() => Step::Again,
+            Phase::Parked | Phase::Idle | Phase::Waiting => Step::Rests,
             Phase::Answering | Phase::Leaving => {
                 let step = self.answer(slot, service, moment);
                 match self.places.phase(slot) {

@@ -1,7 +1,7 @@
 //! The interface of a service of the event loop: the end of a request, the records, and the
 //! replacement of the world.
 ghost use Rattle.std.specs.Prelude.{ℕ, List, IfOk, IfSome};
-ghost use Rattle.iol_proc.specs.World.{Stage};
+ghost use Rattle.iol_proc.specs.World.{WorldState};
 ghost use Rattle.iol_system.specs.Machine.{SystemState};
 ghost use Rattle.iol_reactor.specs.declared.service.Frame.{Frame};
 
@@ -71,7 +71,7 @@ pub trait Service<B: Backing, P: Process> {
     ghost POOL: { ℕ };
 
     /// The worlds that it may begin with.
-    ghost starts: { Stage SystemState P → Type 0 } = { λ world. Unit {0} };
+    ghost starts: { WorldState SystemState P → Type 0 } = { λ world. Unit {0} };
 
     /// Whether this is a frame of the first request of these bytes.
     ghost frames: { List ℕ → Frame → Type 0 } = { λ bytes frame. Unit {0} };

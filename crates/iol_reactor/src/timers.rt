@@ -26,7 +26,7 @@ pub struct Timers {
 const LOOKS: u64 = 8;
 
 // The time between two checks of a limit.
-fn look_of(millis: u64) -> u64
+fn interval_of(millis: u64) -> u64
     ensures { result ≡ max (millis / LOOKS) 1 }
 {
     (millis / LOOKS).max(1)
@@ -48,8 +48,8 @@ impl Timers {
     {
         let most = limits.max_clients;
         Ok(Timers {
-            silences: Deadlines::new(alloc, look_of(limits.idle_millis), most)?,
-            heads: Deadlines::new(alloc, look_of(limits.head_millis), most)?,
+            silences: Deadlines::new(alloc, interval_of(limits.idle_millis), most)?,
+            heads: Deadlines::new(alloc, interval_of(limits.head_millis), most)?,
             rates: Deadlines::new(alloc, limits.rate_millis, most)?,
             drains: Deadlines::new(alloc, limits.drain_millis, most)?,
             parks: Deadlines::new(alloc, limits.park_millis, most)?,

@@ -22,7 +22,7 @@ impl Stopwatch for Stopped {
     }
 }
 
-/// The order of the turns of a run. Each process has a time slice: turns until it is quiet, that is
+/// The order of the turns of a run. Each process has a time slice: turns until it is idle, that is
 /// has yielded twice and not acted between, or for `SLICE_MICROS`. The first process has the first
 /// one; then rounds of time slices continue with the process at which those of the run before
 /// ended.
@@ -35,9 +35,9 @@ pub struct Order {
     resumes: Option<usize>,
 
     // The yields in the time slice, and the time slices of rounds, one after another, that ended as
-    // the process was quiet: since a process acted.
+    // the process was idle: since a process acted.
     yields: usize,
-    quiet: usize,
+    idle_count: usize,
 
     // The turns of the first process in which it acted, since the clock was read.
     untimed: usize,
@@ -56,7 +56,7 @@ impl Order {
     pub fn new(count: usize, next: usize) -> Order
         ensures count { result.count ≡ count }
         ensures place { result.place ≡ 0 }
-        ensures quiet { result.quiet ≡ 0 }
+        ensures idle_count { result.idle_count ≡ 0 }
         ensures resumes { result.resumes ≡
             (if nat_lt 0 next && nat_lt next count then Some next else None) }
     {
@@ -69,7 +69,7 @@ impl Order {
                 None
             },
             yields: 0,
-            quiet: 0,
+            idle_count: 0,
             untimed: 0,
             now: 0,
             began: 0,
@@ -91,18 +91,18 @@ impl Order {
         self.resumes.unwrap_or(self.place)
     }
 
-    /// Whether all processes are idle: each was quiet in a round in which none acted.
+    /// Whether all processes are idle: each was idle in a round in which none acted.
     pub fn is_idle(&self) -> bool
-        ensures { result ≡ nat_le self.entry.now.count self.entry.now.quiet }
+        ensures { result ≡ nat_le self.entry.now.count self.entry.now.idle_count }
     {
-        self.count <= self.quiet
+        self.count <= self.idle_count
     }
 
     /// Whether the run ends: all processes are idle, or its time is over. It ends by time only after
     /// a time slice of another process than the first, if there is one.
     pub fn is_over(&self) -> bool
         ensures { result ≡ (self.entry.now.is_over
-            || nat_le self.entry.now.count self.entry.now.quiet) }
+            || nat_le self.entry.now.count self.entry.now.idle_count) }
     {
         self.is_over || self.is_idle()
     }
@@ -111,12 +111,12 @@ impl Order {
     pub fn note<W: Stopwatch>(&mut self, activity: Activity, watch: &mut W)
         ensures count { self.new.count ≡ self.old.count }
         ensures waits { activity ≡ Activity.Waits → self.new ≡ self.old }
-        ensures acts { activity ≡ Activity.Acts → self.new.quiet ≡ 0 }
+        ensures acts { activity ≡ Activity.Acts → self.new.idle_count ≡ 0 }
         ensures restarts { activity ≡ Activity.Acts → self.new.yields ≡ 0 }
-        ensures quiet { self.new.quiet ≤ self.old.quiet + 1 }
-        ensures second_yield { self.new.quiet ≡ self.old.quiet + 1 →
+        ensures idle_count { self.new.idle_count ≤ self.old.idle_count + 1 }
+        ensures second_yield { self.new.idle_count ≡ self.old.idle_count + 1 →
             (activity ≡ Activity.Yields) × (1 ≤ self.old.yields) }
-        ensures first_yield { activity ≡ Activity.Yields → self.old.yields ≡ 0 → (self.new.quiet ≡ self.old.quiet)
+        ensures first_yield { activity ≡ Activity.Yields → self.old.yields ≡ 0 → (self.new.idle_count ≡ self.old.idle_count)
             × (self.new.place ≡ self.old.place) }
     {
         match activity {
@@ -124,12 +124,12 @@ impl Order {
             Activity::Yields => {
                 self.yields = self.yields.saturating_add(1);
                 if 2 <= self.yields {
-                    self.be_quiet();
+                    self.count_idle();
                 }
             }
             Activity::Acts => {
                 self.yields = 0;
-                self.quiet = 0;
+                self.idle_count = 0;
                 self.untimed = self.untimed.saturating_add(1);
                 if 0 < self.place || UNTIMED_TURNS <= self.untimed {
                     self.read(watch);
@@ -138,13 +138,13 @@ impl Order {
         }
     }
 
-    // The process is quiet, so its time slice is over.
-    fn be_quiet(&mut self)
+    // The process is idle, so its time slice is over.
+    fn count_idle(&mut self)
         ensures count { self.new.count ≡ self.old.count }
-        ensures quiet { self.new.quiet ≤ self.old.quiet + 1 }
+        ensures idle_count { self.new.idle_count ≤ self.old.idle_count + 1 }
     {
         if self.resumes.is_none() {
-            self.quiet = self.quiet.saturating_add(1);
+            self.idle_count = self.idle_count.saturating_add(1);
         }
         self.end_slice();
     }
@@ -152,7 +152,7 @@ impl Order {
     // Reads the clock. The time slice may be over.
     fn read<W: Stopwatch>(&mut self, watch: &mut W)
         ensures count { self.new.count ≡ self.old.count }
-        ensures quiet { self.new.quiet ≡ self.old.quiet }
+        ensures idle_count { self.new.idle_count ≡ self.old.idle_count }
         ensures yields { self.old.yields ≡ 0 → self.new.yields ≡ 0 }
     {
         self.untimed = 0;
@@ -165,7 +165,7 @@ impl Order {
     // The next process has its time slice.
     fn end_slice(&mut self)
         ensures count { self.new.count ≡ self.old.count }
-        ensures quiet { self.new.quiet ≡ self.old.quiet }
+        ensures idle_count { self.new.idle_count ≡ self.old.idle_count }
         ensures resumed { IfSome self.old.resumes (λ next. self.new.place ≡ next) }
         ensures next { self.old.resumes ≡ None → self.old.place + 1 < self.old.count
             → self.new.place ≡ self.old.place + 1 }

@@ -17,7 +17,7 @@ use Rattle.iol_proc.specs.Streams.{ArrivesAs, SendsAs}
 use Rattle.iol_proc.specs.Histories.{stream_over, sent_over, drops_with}
 use Rattle.iol_proc.specs.Idle.{rounds}
 use Rattle.iol_proc.specs.Turns.{TransitionRelation}
-use Rattle.iol_proc.specs.World.{Stage, copying, OutsideStep, WorldRun}
+use Rattle.iol_proc.specs.World.{WorldState, copying, OutsideStep, WorldRun}
 use Rattle.iol_proc.specs.declared.choice.Choice.{Choice}
 use Rattle.iol_proc.specs.declared.choice.Choice.TheVariants as choice
 use Rattle.iol_proc.proofs.Streams.{runs_follow, stream_over-append, sent_over-append}
@@ -98,7 +98,7 @@ take_all (suc n) [] e = refl
 take_all (suc n) (x ∷ xs) e = ap (λ (w : List ℕ). x ∷ w) (take_all n xs (omega (arith, e)))
 
 module _ {P : Type 0} (turns : TransitionRelation P) where
-  pub goes_none : (c : ℕ) (w after : Stage State P) → after ≡ w → Proceeds turns c [] [] false w after
+  pub goes_none : (c : ℕ) (w after : WorldState State P) → after ≡ w → Proceeds turns c [] [] false w after
   unfolding stream_over sent_over
   goes_none c w after same = record {
     choices = [];
@@ -110,7 +110,7 @@ module _ {P : Type 0} (turns : TransitionRelation P) where
     reports = refl;
   }
 
-  pub goes_then : (c : ℕ) (came sent more rest : List ℕ) (gone last : Bool) (w mid after : Stage State P)
+  pub goes_then : (c : ℕ) (came sent more rest : List ℕ) (gone last : Bool) (w mid after : WorldState State P)
       → Proceeds turns c came sent gone w mid → Proceeds turns c more rest last mid after
       → Proceeds turns c (came ++ more) (sent ++ rest) (gone || last) w after
   goes_then c came sent more rest gone last w mid after a b = record {
@@ -128,7 +128,7 @@ module _ {P : Type 0} (turns : TransitionRelation P) where
         ∙ ap (λ (t : Bool). gone || t) b.reports);
   }
 
-  pub goes_turns : (c i n : ℕ) (ds : List ℕ) (rs : List Reply) (w after : Stage State P)
+  pub goes_turns : (c i n : ℕ) (ds : List ℕ) (rs : List Reply) (w after : WorldState State P)
       → WorldRun copying turns w (rounds ds i n) rs after → Proceeds turns c [] [] false w after
   goes_turns c i n ds rs w after ran = record {
     choices = rounds ds i n;
@@ -141,7 +141,7 @@ module _ {P : Type 0} (turns : TransitionRelation P) where
   }
 
   -- one external event
-  goes_outside : (c : ℕ) (e : Event) (r : Reply) (came sent : List ℕ) (gone : Bool) (w after : Stage State P)
+  goes_outside : (c : ℕ) (e : Event) (r : Reply) (came sent : List ℕ) (gone : Bool) (w after : WorldState State P)
       → OutsideStep copying turns w e r after → IsOn c (choice.Outside e) → came_by c e r ≡ came → sent_by c e r ≡ sent
       → drops_unsent e c ≡ gone → Proceeds turns c came sent gone w after
   unfolding stream_over sent_over
@@ -155,22 +155,22 @@ module _ {P : Type 0} (turns : TransitionRelation P) where
     reports = or-false (drops_unsent e c) ∙ reports;
   }
 
-  pub goes_closed : (c : ℕ) (r : Reply) (w after : Stage State P)
+  pub goes_closed : (c : ℕ) (r : Reply) (w after : WorldState State P)
       → OutsideStep copying turns w (event.PeerClosed c Done) r after → Proceeds turns c [] [] false w after
   goes_closed c r w after step = goes_outside c (event.PeerClosed c Done) r [] [] false w after step refl refl refl refl
 
-  pub goes_hung_up : (c : ℕ) (r : Reply) (w after : Stage State P)
+  pub goes_hung_up : (c : ℕ) (r : Reply) (w after : WorldState State P)
       → OutsideStep copying turns w (event.PeerClosed c Gone) r after → Proceeds turns c [] [] true w after
   goes_hung_up c r w after step =
       goes_outside c (event.PeerClosed c Gone) r [] [] true w after step refl refl refl (same_number c)
 
-  pub goes_arrived : (c n : ℕ) (bytes : List ℕ) (w after : Stage State P) → length bytes ≡ n
+  pub goes_arrived : (c n : ℕ) (bytes : List ℕ) (w after : WorldState State P) → length bytes ≡ n
       → ArrivesAs turns c n bytes w after → Proceeds turns c bytes [] false w after
   goes_arrived c n bytes w after count step =
       goes_outside c (event.Arrive c bytes) (reply.Count n) bytes [] false w after step refl (own c (take n bytes)
       ∙ take_all n bytes count) refl refl
 
-  pub goes_sent : (c n : ℕ) (bytes : List ℕ) (w after : Stage State P) → SendsAs turns c n w after
+  pub goes_sent : (c n : ℕ) (bytes : List ℕ) (w after : WorldState State P) → SendsAs turns c n w after
       → (transmit w.machine c n).answer.0 ≡ bytes → (n ≡ 0 → bytes ≡ []) → Proceeds turns c [] bytes false w after
   goes_sent c zero bytes w after step is none =
       subst (λ (l : List ℕ). Proceeds turns c [] l false w after) (sym (none refl)) (goes_none c w after step)
@@ -181,11 +181,11 @@ module _ {P : Type 0} (turns : TransitionRelation P) where
 
   -- ---- bytes sent, and bytes served
 
-  pub sends_none : (c : ℕ) (held now : Option (List ℕ)) (w after : Stage State P) → Appends held now [] → after ≡ w
+  pub sends_none : (c : ℕ) (held now : Option (List ℕ)) (w after : WorldState State P) → Appends held now [] → after ≡ w
       → Sends turns c held now w after
   sends_none c held now w after kept same = record { sent = []; taken = kept; proceeds = goes_none c w after same }
 
-  pub sends_then : (c : ℕ) (a b d : Option (List ℕ)) (w mid after : Stage State P) → Sends turns c a b w mid
+  pub sends_then : (c : ℕ) (a b d : Option (List ℕ)) (w mid after : WorldState State P) → Sends turns c a b w mid
       → Sends turns c b d mid after → Sends turns c a d w after
   sends_then c a b d w mid after first next = record {
     sent = first.sent ++ next.sent;
@@ -193,22 +193,23 @@ module _ {P : Type 0} (turns : TransitionRelation P) where
     proceeds = goes_then c [] first.sent [] next.sent false false w mid after first.proceeds next.proceeds;
   }
 
-  pub serves_none : (c : ℕ) (left held now : Option (List ℕ)) (w : Stage State P) → Appends held now []
+  pub serves_none : (c : ℕ) (left held now : Option (List ℕ)) (w : WorldState State P) → Appends held now []
       → Serves turns c false left left held now w w
   serves_none c left held now w kept =
       record { came = []; sent = []; given = consumes_none left; taken = kept; proceeds = goes_none c w w refl }
 
-  pub serves_sent : (c : ℕ) (left held now : Option (List ℕ)) (w after : Stage State P) → Sends turns c held now w after
+  pub serves_sent : (c : ℕ) (left held now : Option (List ℕ)) (w after : WorldState State P)
+      → Sends turns c held now w after
       → Serves turns c false left left held now w after
   serves_sent c left held now w after s =
       record { came = []; sent = s.sent; given = consumes_none left; taken = s.taken; proceeds = s.proceeds }
 
-  pub serves_alone : (c : ℕ) (gone : Bool) (left held : Option (List ℕ)) (w after : Stage State P)
+  pub serves_alone : (c : ℕ) (gone : Bool) (left held : Option (List ℕ)) (w after : WorldState State P)
       → Proceeds turns c [] [] gone w after → Serves turns c gone left left held held w after
   serves_alone c gone left held w after g =
       record { came = []; sent = []; given = consumes_none left; taken = appends_none held; proceeds = g }
 
-  pub serves_then : (c : ℕ) (gone last : Bool) (l m r h i k : Option (List ℕ)) (w mid after : Stage State P)
+  pub serves_then : (c : ℕ) (gone last : Bool) (l m r h i k : Option (List ℕ)) (w mid after : WorldState State P)
       → Serves turns c gone l m h i w mid → Serves turns c last m r i k mid after
       → Serves turns c (gone || last) l r h k w after
   serves_then c gone last l m r h i k w mid after first next = record {
@@ -219,7 +220,8 @@ module _ {P : Type 0} (turns : TransitionRelation P) where
     proceeds = goes_then c first.came first.sent next.came next.sent gone last w mid after first.proceeds next.proceeds;
   }
 
-  pub serves_came : (c n : ℕ) (left rest held now : Option (List ℕ)) (w after : Stage State P) → Appends held now []
+  pub serves_came : (c n : ℕ) (left rest held now : Option (List ℕ)) (w after : WorldState State P)
+      → Appends held now []
       → TakesIn left rest n (λ bytes. ArrivesAs turns c n bytes w after)
       → Serves turns c false left rest held now w after
   serves_came c n left rest held now w after kept t =
@@ -231,7 +233,7 @@ module _ {P : Type 0} (turns : TransitionRelation P) where
         proceeds = goes_arrived c n t.bytes w after t.count t.arrives;
       }
 
-  pub serves_refused : (c : ℕ) (left rest held now : Option (List ℕ)) (w after : Stage State P) → rest ≡ left
+  pub serves_refused : (c : ℕ) (left rest held now : Option (List ℕ)) (w after : WorldState State P) → rest ≡ left
       → Appends held now [] → after ≡ w → Serves turns c false left rest held now w after
   serves_refused c left rest held now w after still kept same = record {
     came = [];
@@ -241,17 +243,18 @@ module _ {P : Type 0} (turns : TransitionRelation P) where
     proceeds = goes_none c w after same;
   }
 
-  pub goes_as : (c : ℕ) (gone is : Bool) (w after : Stage State P) → gone ≡ is → Proceeds turns c [] [] gone w after
+  pub goes_as : (c : ℕ) (gone is : Bool) (w after : WorldState State P) → gone ≡ is
+      → Proceeds turns c [] [] gone w after
       → Proceeds turns c [] [] is w after
   goes_as c gone is w after same g = subst (λ (b : Bool). Proceeds turns c [] [] b w after) same g
 
   -- with another expression for whether the peer was reported gone
-  pub serves_as : (c : ℕ) (gone is : Bool) (l r h k : Option (List ℕ)) (w after : Stage State P) → gone ≡ is
+  pub serves_as : (c : ℕ) (gone is : Bool) (l r h k : Option (List ℕ)) (w after : WorldState State P) → gone ≡ is
       → Serves turns c gone l r h k w after → Serves turns c is l r h k w after
   serves_as c gone is l r h k w after same s = subst (λ (b : Bool). Serves turns c b l r h k w after) same s
 
   -- the same, if the writer then takes no more bytes
-  pub serves_kept : (c : ℕ) (gone : Bool) (l r h i k : Option (List ℕ)) (w after : Stage State P) → Appends i k []
+  pub serves_kept : (c : ℕ) (gone : Bool) (l r h i k : Option (List ℕ)) (w after : WorldState State P) → Appends i k []
       → Serves turns c gone l r h i w after → Serves turns c gone l r h k w after
   serves_kept c gone l r h i k w after kept s = record {
     came = s.came;

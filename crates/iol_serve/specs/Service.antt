@@ -10,7 +10,7 @@ use Rattle.iol_core.specs.declared.events.Reply.{Reply}
 use Rattle.iol_system.specs.Machine.{SystemState}
 use Rattle.iol_proc.specs.Histories.{stream_over, sent_over, drops_with}
 use Rattle.iol_proc.specs.Turns.{TransitionRelation}
-use Rattle.iol_proc.specs.World.{Stage, copied, copying, WorldRun}
+use Rattle.iol_proc.specs.World.{WorldState, copied, copying, WorldRun}
 use Rattle.iol_proc.specs.declared.choice.Choice.{Choice}
 use Rattle.iol_proc.specs.declared.choice.Choice.TheVariants as choice
 use Rattle.iol_serve.specs.declared.ending.Ending.{Ending}
@@ -41,7 +41,7 @@ AreOn c choices = AllByRecursion (IsOn c) choices
 module _ {P : Type 0} (turns : TransitionRelation P) where
   -- From w, the choices are only process turns and events of this connection. These bytes are received and these are
   -- sent; gone is whether the peer is reported as gone.
-  pub record Proceeds (c : ℕ) (came sent : List ℕ) (gone : Bool) (w after : Stage State P) : Type 0 where
+  pub record Proceeds (c : ℕ) (came sent : List ℕ) (gone : Bool) (w after : WorldState State P) : Type 0 where
     pub choices : List Choice
     pub replies : List Reply
     pub run : WorldRun copying turns w choices replies after
@@ -51,14 +51,14 @@ module _ {P : Type 0} (turns : TransitionRelation P) where
     pub reports : list_any (λ x. drops_with x c) choices ≡ gone
 
   -- The bytes sent are those that a writer took, in order, if its bytes are known.
-  pub record Sends (c : ℕ) (held now : Option (List ℕ)) (w after : Stage State P) : Type 0 where
+  pub record Sends (c : ℕ) (held now : Option (List ℕ)) (w after : WorldState State P) : Type 0 where
     pub sent : List ℕ
     pub taken : Appends held now sent
     pub proceeds : Proceeds c [] sent false w after
 
   -- The bytes received are those that a reader gave, and the bytes sent those that a writer took, in order and if
   -- known.
-  pub record Serves (c : ℕ) (gone : Bool) (left rest held now : Option (List ℕ)) (w after : Stage State P) :
+  pub record Serves (c : ℕ) (gone : Bool) (left rest held now : Option (List ℕ)) (w after : WorldState State P) :
       Type 0 where
     pub came : List ℕ
     pub sent : List ℕ
@@ -69,22 +69,22 @@ module _ {P : Type 0} (turns : TransitionRelation P) where
 -- Advancing, sending and serving a connection of a world, in terms of the copying machine. All except `SendsIn` require
 -- an honest store. The parameters give the remaining bytes of a reader and the contents of a writer, if known.
 module _ {P : Type 0} (turns : TransitionRelation P) where
-  abbrev pub ProceedsIn : (c : ℕ) (came sent : List ℕ) (gone : Bool) (w after : Stage SystemState P) → Type 0
+  abbrev pub ProceedsIn : (c : ℕ) (came sent : List ℕ) (gone : Bool) (w after : WorldState SystemState P) → Type 0
   ProceedsIn c came sent gone w after =
       IfHonest w.machine.disk (Proceeds turns c came sent gone (copied w) (copied after))
 
   abbrev pub SendsIn : {W : Type 0}
-      → (c : ℕ) (held : W → Option (List ℕ)) (writer written : W) (w after : Stage SystemState P)
+      → (c : ℕ) (held : W → Option (List ℕ)) (writer written : W) (w after : WorldState SystemState P)
       → Type 0
   SendsIn c held writer written w after = Sends turns c (held writer) (held written) (copied w) (copied after)
 
   abbrev pub ServesIn : {R W : Type 0} → (c : ℕ) (gone : Bool) (left : R → Option (List ℕ)) (reader rest : R)
-      (held : W → Option (List ℕ)) (writer written : W) (w after : Stage SystemState P) → Type 0
+      (held : W → Option (List ℕ)) (writer written : W) (w after : WorldState SystemState P) → Type 0
   ServesIn c gone left reader rest held writer written w after = IfHonest w.machine.disk
       (Serves turns c gone (left reader) (left rest) (held writer) (held written) (copied w) (copied after))
 
   -- a connection was served, with this ending
   abbrev pub ServesUntil : {R W : Type 0} → (c : ℕ) → Ending → (left : R → Option (List ℕ)) (reader rest : R)
-      (held : W → Option (List ℕ)) (writer written : W) (w after : Stage SystemState P) → Type 0
+      (held : W → Option (List ℕ)) (writer written : W) (w after : WorldState SystemState P) → Type 0
   ServesUntil c ending left reader rest held writer written w after =
       ServesIn c (hung_up ending) left reader rest held writer written w after

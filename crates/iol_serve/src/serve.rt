@@ -39,7 +39,7 @@ enum Step {
     Moved,
 
     /// Nothing is queued for sending. As the result of a round: and the processes are not idle.
-    Quiet,
+    Idle,
 
     /// A read, a write or a flush failed.
     Failed,
@@ -102,7 +102,7 @@ fn after(before: Ending, step: Step) -> Ending
         Step::Failed => Ending::Failed,
         Step::Silent => Ending::Silent,
         Step::Stalled => Ending::Long,
-        Step::Moved | Step::Quiet | Step::Over => Ending::Over,
+        Step::Moved | Step::Idle | Step::Over => Ending::Over,
     }
 }
 
@@ -112,7 +112,7 @@ fn is_last(before: Ending, step: Step) -> bool
     ensures { result ≡ spec.is_last (hung_up before) step }
 {
     match step {
-        Step::Moved | Step::Quiet => false,
+        Step::Moved | Step::Idle => false,
         Step::Failed | Step::Silent | Step::Stalled => before.is_hung_up(),
         Step::Over => true,
     }
@@ -168,12 +168,12 @@ fn round<B: Backing + Drop, P: Process, R: Read, W: Write>(
     step
 }
 
-// Returns the step, or `Stalled` at the limit of successive quiet steps.
+// Returns the step, or `Stalled` at the limit of successive idle steps.
 fn bounded(step: Step, stalls: &mut u32) -> Step
     ensures over { result ≡ Step.Over → step ≡ Step.Over }
 {
     *stalls = match step {
-        Step::Quiet => stalls.saturating_add(1),
+        Step::Idle => stalls.saturating_add(1),
         _ => 0,
     };
     if *stalls < MAX_STALLS {
@@ -225,7 +225,7 @@ fn exchange<B: Backing + Drop, P: Process, R: Read, W: Write>(
         return step;
     }
     match step {
-        Step::Quiet => receive(world, conn, reader, writer),
+        Step::Idle => receive(world, conn, reader, writer),
         other => other,
     }
 }
@@ -254,7 +254,7 @@ fn send<B: Backing + Drop, P: Process, W: Write>(
     for _ in 0..=MAX_QUEUE_BYTES {
         match send_piece(world, conn, writer) {
             Step::Moved => has_moved = true,
-            Step::Quiet => return progress(has_moved),
+            Step::Idle => return progress(has_moved),
             other => return other,
         }
     }
@@ -265,7 +265,7 @@ fn send<B: Backing + Drop, P: Process, W: Write>(
 fn progress(has_moved: bool) -> Step
     ensures { result ≢ Step.Over }
 {
-    if has_moved { Step::Moved } else { Step::Quiet }
+    if has_moved { Step::Moved } else { Step::Idle }
 }
 
 // Sends the first bytes of the queued output.
@@ -284,7 +284,7 @@ fn send_piece<B: Backing + Drop, P: Process, W: Write>(
             if drained.failed {
                 Step::Failed
             } else if drained.taken == 0 {
-                Step::Quiet
+                Step::Idle
             } else {
                 Step::Moved
             }

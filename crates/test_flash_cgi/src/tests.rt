@@ -3,4 +3,4 @@ mod ample;
 mod ends;
 mod outputs;
 mod rows;
-mod stage;
+mod worker_world;

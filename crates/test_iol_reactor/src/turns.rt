@@ -32,7 +32,7 @@ const ROWS: [(usize, usize, &[u8], usize, bool, bool); 22] = [
     (3, 2, b"yy", 2, false, false),
     (3, 2, b"yyyy", 0, false, false),
     (3, 3, b"yy", 1, false, false),
-    // Idle are those that were quiet in a round in which none acted.
+    // Idle are those that were idle in a round in which none acted.
     (2, 0, b"yyy", 1, false, false),
     (2, 0, b"yyywy", 0, true, true),
     (2, 0, b"yyy0yy", 0, false, false),

@@ -9,7 +9,7 @@ use Rattle.iol_core.specs.declared.refusals.Refusal.TheVariants.{WouldBlock}
 use Rattle.iol_back.specs.Prelude.{IfHonest}
 use Rattle.iol_system.specs.Prelude.{SystemState, machine_of}
 use Rattle.iol_proc.specs.Prelude.{AllQuiescent}
-use Rattle.iol_proc.specs.World.{Stage}
+use Rattle.iol_proc.specs.World.{WorldState}
 use Rattle.iol_proc.specs.declared.process.Turn.{Turn}
 use Rattle.iol_proc.specs.declared.process.Turn.TheVariants as turn
 
@@ -31,7 +31,7 @@ HasWatched (suc (suc n)) by asked m = NoneWaits m by
 
 -- Over an honest store: if a world of watchers is idle after turns, each of them has watched for two yields, and so no
 -- connection is waiting that its domain may accept.
-abbrev pub AllHaveWatched : {P : Type 0} → (world after : Stage SystemState P) → (asked : P → Bool) → (idle : Bool)
+abbrev pub AllHaveWatched : {P : Type 0} → (world after : WorldState SystemState P) → (asked : P → Bool) → (idle : Bool)
     → Type 0
 AllHaveWatched world after asked idle = IfHonest world.machine.disk
     (IsTrue idle

@@ -7,7 +7,7 @@ use Rattle.iol_core.specs.declared.events.Reply.TheVariants as reply
 use Rattle.flash_http.specs.Request.{Wanted}
 use Rattle.flash_laws.specs.Conn.{Following, count_of}
 use Rattle.flash_laws.specs.Run.{after_reply, after_step, holding, hearing, filled, finishing, both}
-use Rattle.flash_laws.specs.Run.Stages.{is_starting}
+use Rattle.flash_laws.specs.Run.WorkerStates.{is_starting}
 use Rattle.flash_laws.specs.declared.phase.Phase.TheVariants as phase
 use Rattle.flash_laws.specs.declared.script_run.TheConstants.{CHUNK_BYTES}
 use Rattle.flash_laws.specs.declared.script_run.Run.{Run}

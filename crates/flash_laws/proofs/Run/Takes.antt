@@ -48,7 +48,7 @@ use Rattle.flash_laws.proofs.Conn.Responses.{some-inj}
 use Rattle.flash_laws.proofs.Lists.{clash, not-equal, not-false}
 use Rattle.flash_laws.proofs.Run.Rest as left
 use Rattle.flash_laws.proofs.Run.Rest.{SendsAll, is_sent, is-rest, whole-taken}
-use Rattle.flash_laws.proofs.Run.Quiet.{is_part, Bars, quiet}
+use Rattle.flash_laws.proofs.Run.TakesNothing.{is_part, Bars, takes_nothing}
 use Rattle.flash_laws.proofs.Conn.TakenBytes.{breaks as conn-breaks}
 
 -- ---- the number of bytes taken before
@@ -229,7 +229,7 @@ plain-takes job m w run fd c s r received before after plain open_on has learns 
     let past =
     past-step job m w run s r received before after plain has.1
     (λ bars. clash (breaks_off (after_step w run s r received)) (bars-breaks w run s r received bars) on) learns in
-    let new = (quiet w run s r received plain).0 in
+    let new = (takes_nothing w run s r received plain).0 in
     let was = taken-plain run s plain in
     let none = takes-nothing job m w run fd c has.0.0 s r plain open_on has.0.1 in
     omega (arith, past, new, was, none)
@@ -317,7 +317,8 @@ plain-breaks : (why : RefusalsTellWhy) (job : ℕ → List ℕ) (m n : State) (f
     → HasStep job m w o run s → StepsTo m (event.Call server (step_call job fd w run s)) r n
     → breaks_off (InProgress run s) ≡ false → breaks_off (after_step w run s r received) ≡ true
     → IsCutOff m c (InProgress run s)
-plain-breaks why job m n fd c w o run s r received plain has step at off = by ((quiet w run s r received plain).1 off)
+plain-breaks why job m n fd c w o run s r received plain has step at off =
+    by ((takes_nothing w run s r received plain).1 off)
   where
     by : ((run.broken ≡ true) ⊎ Bars s r) → IsCutOff m c (InProgress run s)
     by (inl is) = absurd (clash run.broken is (sym (broken-plain run s plain) ∙ at))
@@ -460,7 +461,7 @@ plain-fails may why job m n fd w o run (SendingPart d frame) r received lives ha
     by (phase.Aborting a None) reply.Done off = cc (off)
     by d r off = cc (off)
 plain-fails may why job m n fd w o run s r received lives has step at off = let e =
-    (quiet w run s r received refl).2 off in absurd (cc (e))
+    (takes_nothing w run s r received refl).2 off in absurd (cc (e))
 
 pub fails : (may : RefusalsThatAreLeft) (why : RefusalsTellWhy) (job : ℕ → List ℕ) (m n : State) (fd worker : ℕ)
     (w : Wanted) (x : Running) (r : Reply) (received : List ℕ) (o : Progress)
@@ -487,5 +488,5 @@ in_turn worker w (InProgress run (SendingPart d frame)) r received = inr (by d r
     by (phase.DroppingSent a taken None) reply.Done = tt
     by (phase.Aborting a None) reply.Done = tt
     by d r = refl
-in_turn worker w (InProgress run s) r received = (quiet w run s r received refl).3
+in_turn worker w (InProgress run s) r received = (takes_nothing w run s r received refl).3
 in_turn worker w x r received = inl refl

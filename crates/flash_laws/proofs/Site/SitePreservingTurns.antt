@@ -4,11 +4,11 @@ use Rattle.iol_core.specs.State.{State}
 use Rattle.iol_core.specs.declared.events.Reply.{Reply}
 use Rattle.iol_proc.specs.Idle.{rounds}
 use Rattle.iol_proc.specs.Turns.{TransitionRelation}
-use Rattle.iol_proc.specs.World.{Stage, copying, WorldRun}
+use Rattle.iol_proc.specs.World.{WorldState, copying, WorldRun}
 use Rattle.flash_laws.specs.World.Undisturbed.{AreSitePreserving}
 
 pub rounds-site_preserving : {P : Type 0} (turns : TransitionRelation P) (ds : List ℕ) (i n : ℕ) (rs : List Reply)
-    (w after : Stage State P)
+    (w after : WorldState State P)
     → (run : WorldRun copying turns w (rounds ds i n) rs after) → AreSitePreserving turns w (rounds ds i n) rs after run
 rounds-site_preserving turns ds i zero rs w after run = tt
 rounds-site_preserving turns ds i (suc n) [] w after run = tt

@@ -22,7 +22,7 @@ use Rattle.flash_cgi.specs.Beside.{is_call_of, LeavesFiles, OthersReceive}
 use Rattle.flash_cgi.specs.Expected.{Goes, IsExpected, IsWritten, Made, ScriptsPutOut}
 use Rattle.flash_cgi.specs.Free.{HasNoJob, WorkersStayFree}
 use Rattle.flash_cgi.specs.Full.{RunningIsFull}
-use Rattle.flash_cgi.specs.Frame.{LeavesAllBut, WorkersAreQuiet}
+use Rattle.flash_cgi.specs.Frame.{LeavesAllBut, WorkersAreConfined}
 use Rattle.flash_cgi.specs.Outcomes.{AreFiles, outcomes_in}
 use Rattle.flash_cgi.specs.Output.{Outcome, output}
 use Rattle.flash_cgi.specs.OutputPools.{HoldFiles, IsShown, OutputsAreShown}
@@ -40,7 +40,7 @@ no_exit (event.Call by (call.SetPool q)) d other = other
 no_exit e d other = refl
 
 module _ (stay_free : WorkersStayFree) (put_out : ScriptsPutOut) (receive : OthersReceive)
-    (keep_quiet : WorkersAreQuiet) (show : OutputsAreShown) (fill : RunningIsFull)
+    (keep_confined : WorkersAreConfined) (show : OutputsAreShown) (fill : RunningIsFull)
     (steps : EachStepLeavesTheRest) (pools : ℕ → Bool) where
   abbrev Free : State → (j : ℕ) → ProcessSlot Worker → Type 0
   Free m j process_slot = IsFreeFor pools m j process_slot
@@ -160,18 +160,18 @@ module _ (stay_free : WorkersStayFree) (put_out : ScriptsPutOut) (receive : Othe
             };
       }
 
-  quiet : (m n : State) (j p : ℕ) (process_slot next : ProcessSlot Worker) (yields : Bool) (r : Reply) (made : Made)
+  confined : (m n : State) (j p : ℕ) (process_slot next : ProcessSlot Worker) (yields : Bool) (r : Reply) (made : Made)
       (text : List ℕ) → Expected m j p process_slot made text
       → ProcessSlotTurn copying worker_turns m process_slot yields r n next → LeavesAllBut m process_slot.by j n
       ⊎ LeavesAllBut m process_slot.by p n
-  quiet m n j p process_slot next yields r made text h did = by h.expected.unseen h.expected.runs
+  confined m n j p process_slot next yields r made text h did = by h.expected.unseen h.expected.runs
     where
       by : (unseen : List Outcome → List ℕ) → RunsJob m p process_slot unseen → LeavesAllBut m process_slot.by j n
           ⊎ LeavesAllBut m process_slot.by p n
       by unseen (inl a) =
-          inl (keep_quiet.free m n j process_slot next yields r a.has.live a.free h.expected.job_queue.jobs did).0
-      by unseen (inr (inl a)) = inr (keep_quiet.begins m n p process_slot next yields r unseen a did)
-      by unseen (inr (inr a)) = inr (keep_quiet.runs m n p process_slot next yields r unseen a did)
+          inl (keep_confined.free m n j process_slot next yields r a.has.live a.free h.expected.job_queue.jobs did).0
+      by unseen (inr (inl a)) = inr (keep_confined.begins m n p process_slot next yields r unseen a did)
+      by unseen (inr (inr a)) = inr (keep_confined.runs m n p process_slot next yields r unseen a did)
 
   writes : (m : State) (j p : ℕ) (process_slot : ProcessSlot Worker) (made : Made) (text : List ℕ)
       → Expected m j p process_slot made text → (fd : ℕ) × (descriptor m process_slot.by fd ≡ Some (on.WriteEnd p))
@@ -192,7 +192,7 @@ module _ (stay_free : WorkersStayFree) (put_out : ScriptsPutOut) (receive : Othe
     begins = begins;
     turns = turns;
     others = others;
-    quiet = quiet;
+    confined = confined;
     shown = λ m j p process_slot made text h. h.shown.output;
     reads = λ m j p process_slot made text h. h.expected.job_queue.jobs;
     full = λ m j p process_slot made text order access h waited. fill m p process_slot h.expected.unseen order access

@@ -28,7 +28,7 @@ use Rattle.flash_laws.specs.Run.{job_pipe, is_reading, step_fd, ends_of}
 use Rattle.flash_laws.specs.Site.ClientConsistency.{AreAtJobQueues}
 use Rattle.flash_laws.specs.SiteContents.{SiteContents, MayBeExpected}
 use Rattle.flash_laws.specs.Site.{server, KeepsSite}
-use Rattle.flash_laws.specs.Run.Stages.{HasWorkerAt}
+use Rattle.flash_laws.specs.Run.WorkerStates.{HasWorkerAt}
 use Rattle.flash_laws.specs.declared.phase.Phase.{Phase}
 use Rattle.flash_laws.specs.declared.phase.FileResult.TheVariants.{Text as TextOf}
 use Rattle.flash_laws.specs.declared.phase.Payload.TheVariants.{Script}
@@ -40,7 +40,7 @@ use Rattle.flash_laws.proofs.Forms.{of}
 use Rattle.flash_laws.proofs.Conn.ReadableBytes.{readable-stays, has-stays, file-same, content-same}
 use Rattle.flash_laws.proofs.Lists.{self, later_of, both-or}
 use Rattle.flash_laws.proofs.World.AllLaws.{AllLaws}
-use Rattle.flash_laws.proofs.World.JobQueue.Frame.{LeavesOne, stage-on}
+use Rattle.flash_laws.proofs.World.JobQueue.Frame.{LeavesOne, at-step-on}
 use Rattle.flash_laws.proofs.Site.Expected.{shown-may}
 use Rattle.flash_laws.proofs.World.ConsistencyGoes.{consistency-stays, consistency-leaves, run-stays, run-leaves}
 
@@ -155,12 +155,12 @@ module _ (site_contents : SiteContents) (worker_set : WorkerSet) (laws : AllLaws
       record {
         process_slot = h.process_slot;
         sits = h.sits;
-        stage = stage-on worker_set laws m n e r order fixed.placed step left.site run h.process_slot
+        at_step = at-step-on worker_set laws m n e r order fixed.placed step left.site run h.process_slot
             (subst (λ d. is_call_of e d ≡ false) (sym sits.1) (left.others run.worker sits.0 (self run.worker)))
             (left.job_queues run.worker sits.0 (self run.worker))
             job w made o s left.aggs
             (λ is. left.fds run.from (later_of (job_pipe run.worker == run.from) (ends_of run s run.from) (reads is)))
-            (λ is going p opens apart. left.pipe run s p refl opens (reads is) apart going) has.1 h.stage;
+            (λ is going p opens apart. left.pipe run s p refl opens (reads is) apart going) has.1 h.at_step;
       }
   job_queue_on x y script job w made o left has h = tt
 

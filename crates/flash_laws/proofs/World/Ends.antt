@@ -22,7 +22,7 @@ use Rattle.flash_laws.specs.Run.{job_pipe, is_reading, step_fd, ends_of, step_ca
 use Rattle.flash_laws.specs.Run as running
 use Rattle.flash_laws.specs.SiteContents.{SiteContents}
 use Rattle.flash_laws.specs.Site.{server}
-use Rattle.flash_laws.specs.Run.Stages.{AtJobQueue, HasWorkerAt}
+use Rattle.flash_laws.specs.Run.WorkerStates.{AtJobQueue, HasWorkerAt}
 use Rattle.flash_laws.specs.declared.phase.Phase.{Phase}
 use Rattle.flash_laws.specs.declared.phase.Phase.TheVariants as phase
 use Rattle.flash_laws.specs.declared.script_run.Run.{Run}
@@ -124,7 +124,7 @@ module _ (site_contents : SiteContents) (worker_set : WorkerSet) (m : State) (ca
       (ClosingPipe write) =
       subst (λ (z : Running). HasWorkerAt worker_set m process_slots (made_of f.wanted f.script.lines f.shown) f.so_far
       z) (some-inj y (InProgress v (ClosingPipe write)) is) f.job_queue in
-      at.stage
+      at.at_step
 
   -- a write end that a client has is not that of a job queue
   write-apart : (conn : Conn) (y : Running) (script : List ℕ) (g k : ℕ)
@@ -151,9 +151,9 @@ module _ (site_contents : SiteContents) (worker_set : WorkerSet) (m : State) (ca
           let here = ap (λ h. descriptor m server h) (same-number write g u) in
           let same : has.0.pipe ≡ worker_set.job_queue k =
           write-inj has.0.pipe (worker_set.job_queue k) (sym has.0.write_end ∙ (here ∙ is)) in
-          job_queue.stage.has.apart k lt (sym same
-          ∙ read-inj has.0.pipe job_queue.stage.has.pipe (sym has.0.read_end ∙ job_queue.stage.has.reads))
-      by (ClosingPipe write) has job_queue u = job_queue.stage
+          job_queue.at_step.has.apart k lt (sym same
+          ∙ read-inj has.0.pipe job_queue.at_step.has.pipe (sym has.0.read_end ∙ job_queue.at_step.has.reads))
+      by (ClosingPipe write) has job_queue u = job_queue.at_step
       by s has job_queue u = cc (u)
   write-apart conn y script g k f u lt is = cc (u)
 

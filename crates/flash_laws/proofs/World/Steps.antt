@@ -12,7 +12,7 @@ use Rattle.iol_laws.specs.Frame.{EachStepLeavesTheRest, changes_files, admits_to
 use Rattle.iol_laws.specs.Order.{IsOrderly}
 use Rattle.iol_proc.specs.ReadableBytes.{readable_to}
 use Rattle.iol_proc.specs.Turns.{Comes, ProcessSlotTurn}
-use Rattle.iol_proc.specs.World.{Stage, copying, PlaceTurn, WorldStep, WorldRun}
+use Rattle.iol_proc.specs.World.{WorldState, copying, PlaceTurn, WorldStep, WorldRun}
 use Rattle.iol_proc.specs.declared.choice.Choice.{Choice}
 use Rattle.iol_proc.specs.declared.choice.Choice.TheVariants as choice
 use Rattle.iol_proc.specs.declared.process.Turn.{Turn}
@@ -119,7 +119,7 @@ module _ (may : Policy) (site_contents : SiteContents) (worker_set : WorkerSet) 
 
   -- the invariant after a step, by its effect on the machine and on the process slots
   consistent-on : (xs : List Choice) (rs : List Reply) (x : Choice) (r : Reply)
-      (w after : Stage State (Actor worker_set.Worker)) (q : Past)
+      (w after : WorldState State (Actor worker_set.Worker)) (q : Past)
       → Consistent site_contents worker_set xs rs w → Goes w.machine after.machine
       → past_of (xs ++ x ∷ []) (rs ++ r ∷ []) ≡ q → AreInSlots site_contents worker_set after q
       → Consistent site_contents worker_set (xs ++ x ∷ []) (rs ++ r ∷ []) after
@@ -130,7 +130,7 @@ module _ (may : Policy) (site_contents : SiteContents) (worker_set : WorkerSet) 
     in_slots = subst (λ (z : Past). AreInSlots site_contents worker_set after z) (sym past) in_slots;
   }
 
-  module _ (w after : Stage State (Actor worker_set.Worker)) (p : Past) (order : IsOrderly w.machine)
+  module _ (w after : WorldState State (Actor worker_set.Worker)) (p : Past) (order : IsOrderly w.machine)
       (fixed : IsFixedFor site_contents worker_set w.machine) (s : AreInSlots site_contents worker_set w p) where
     abbrev pub first : ProcessSlot (Actor worker_set.Worker)
     first = record { by = server; process = Serving s.state; last = s.last }
@@ -238,7 +238,7 @@ module _ (may : Policy) (site_contents : SiteContents) (worker_set : WorkerSet) 
 
           goes : IsCallOf w.machine process_slot.by r after.machine → IsCopyFree w.machine process_slot.by after.machine
               → Goes w.machine after.machine
-          goes (inl same) quiet = inl same
+          goes (inl same) copies = inl same
           goes (inr called) (inl same) = inl same
           goes (inr called) (inr left) = inr (record {
             e = event.Call process_slot.by called.0;
@@ -416,16 +416,16 @@ module _ (may : Policy) (site_contents : SiteContents) (worker_set : WorkerSet) 
 
   -- Each step that is site-preserving and fair preserves the invariant.
   pub step_keeps : (xs : List Choice) (rs : List Reply) (x : Choice) (r : Reply)
-      (w after : Stage State (Actor worker_set.Worker))
+      (w after : WorldState State (Actor worker_set.Worker))
       → WorldStep copying (actor_turns may worker_set.turns) w x r after → IsSitePreserving w x after
       → AreFair site_contents.refuses (x ∷ []) (r ∷ []) → Consistent site_contents worker_set xs rs w
       → Consistent site_contents worker_set (xs ++ x ∷ []) (rs ++ r ∷ []) after
   step_keeps xs rs (choice.Turn by) r w after (inl absent) site_preserving fair consistent =
       let same : after.machine ≡ w.machine =
-      ap (λ (v : Stage State (Actor worker_set.Worker)). v.machine) absent.stays in
+      ap (λ (v : WorldState State (Actor worker_set.Worker)). v.machine) absent.stays in
       consistent-on xs rs (choice.Turn by) r w after (past_of xs rs) consistent (inl same)
       (past-turn xs rs by r consistent.even)
-      (subst (λ (v : Stage State (Actor worker_set.Worker)). AreInSlots site_contents worker_set v (past_of xs rs))
+      (subst (λ (v : WorldState State (Actor worker_set.Worker)). AreInSlots site_contents worker_set v (past_of xs rs))
       (sym absent.stays) consistent.in_slots)
   step_keeps xs rs (choice.Turn by) r w after (inr present) site_preserving fair consistent =
       let did = place_step w after (past_of xs rs) consistent.order consistent.fixed consistent.in_slots present.place
@@ -440,7 +440,7 @@ module _ (may : Policy) (site_contents : SiteContents) (worker_set : WorkerSet) 
       (past-outside xs rs e r consistent.even) did.1
 
   -- and so does a run of such steps
-  pub run_keeps : (xs : List Choice) (rs : List Reply) (w after : Stage State (Actor worker_set.Worker))
+  pub run_keeps : (xs : List Choice) (rs : List Reply) (w after : WorldState State (Actor worker_set.Worker))
       (past : List Choice) (ps : List Reply)
       → (run : WorldRun copying (actor_turns may worker_set.turns) w xs rs after)
       → AreSitePreserving (actor_turns may worker_set.turns) w xs rs after run → AreFair site_contents.refuses xs rs
@@ -449,7 +449,8 @@ module _ (may : Policy) (site_contents : SiteContents) (worker_set : WorkerSet) 
   run_keeps [] [] w after past ps run site_preserving fair consistent =
       subst (λ (l : List Choice). Consistent site_contents worker_set l (ps ++ []) after) (sym (append-nil past))
       (subst (λ (l : List Reply). Consistent site_contents worker_set past l after) (sym (append-nil ps))
-      (subst (λ (v : Stage State (Actor worker_set.Worker)). Consistent site_contents worker_set past ps v) (sym run)
+      (subst (λ (v : WorldState State (Actor worker_set.Worker)). Consistent site_contents worker_set past ps v)
+      (sym run)
       consistent))
   run_keeps (x ∷ xs) (r ∷ rs) w after past ps run site_preserving fair consistent =
       let both = fair-parts site_contents.refuses x r xs rs fair in

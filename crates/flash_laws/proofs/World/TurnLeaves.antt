@@ -32,7 +32,7 @@ use Rattle.flash_laws.specs.Run.{worker_domain}
 use Rattle.flash_laws.specs.Site.ClientConsistency.{FitsAt, AllFit}
 use Rattle.flash_laws.specs.SiteContents.{SiteContents, IsAmong}
 use Rattle.flash_laws.specs.Site.{server, net_pool, IsFixed, KeepsSite}
-use Rattle.flash_laws.specs.Run.Stages.{HasWorkerAt}
+use Rattle.flash_laws.specs.Run.WorkerStates.{HasWorkerAt}
 use Rattle.flash_laws.specs.declared.script_run.Run.{Run}
 use Rattle.flash_laws.specs.declared.script_run.Step.{Step}
 use Rattle.flash_laws.specs.declared.script_run.Running.{Running}
@@ -156,7 +156,7 @@ job_queue-in_slots_again : (worker_set : WorkerSet) (n : State) (k : ℕ)
 job_queue-in_slots_again worker_set n k process_slots next made o (InProgress run s) none h = record {
   process_slot = h.process_slot;
   sits = set-other process_slots k run.worker next (λ same. differ run.worker k none (sym same)) ∙ h.sits;
-  stage = h.stage;
+  at_step = h.at_step;
 }
 job_queue-in_slots_again worker_set n k process_slots next made o y none h = tt
 

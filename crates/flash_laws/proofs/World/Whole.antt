@@ -10,7 +10,7 @@ use Rattle.iol_core.specs.declared.events.Reply.{Reply}
 use Rattle.iol_core.specs.declared.events.Reply.TheVariants as reply
 use Rattle.iol_laws.specs.Order.{IsOrderly}
 use Rattle.iol_proc.specs.Histories.{stream_over, sent_over}
-use Rattle.iol_proc.specs.World.{Stage}
+use Rattle.iol_proc.specs.World.{WorldState}
 use Rattle.iol_proc.specs.declared.choice.Choice.{Choice}
 use Rattle.iol_proc.specs.declared.process_slot.ProcessSlot.{ProcessSlot}
 use Rattle.flash_laws.specs.Client.{Client}
@@ -34,7 +34,7 @@ use Rattle.flash_laws.proofs.World.Responses.{begins-none, begins-append, begins
 
 -- A new world has the invariant.
 pub first_consistent : (site_contents : SiteContents) (worker_set : WorkerSet)
-    (w : Stage State (Actor worker_set.Worker)) → IsNew site_contents worker_set w
+    (w : WorldState State (Actor worker_set.Worker)) → IsNew site_contents worker_set w
     → Consistent site_contents worker_set [] [] w
 unfolding stream_over sent_over reports_over made_over gone_over given_over
 first_consistent site_contents worker_set w new = record {
@@ -133,7 +133,7 @@ module _ (laws : WindowLaws) (site_contents : SiteContents) (worker_set : Worker
 
 -- If the invariant holds, the output of each connection of the net begins its answer.
 pub consistent_answered : (laws : WindowLaws) (site_contents : SiteContents) (worker_set : WorkerSet) (xs : List Choice)
-    (rs : List Reply) (w : Stage State (Actor worker_set.Worker))
+    (rs : List Reply) (w : WorldState State (Actor worker_set.Worker))
     → Consistent site_contents worker_set xs rs w → AllAnswered site_contents xs rs w.machine
 consistent_answered laws site_contents worker_set xs rs w consistent =
     let s = consistent.in_slots in
@@ -142,7 +142,7 @@ consistent_answered laws site_contents worker_set xs rs w consistent =
 
 -- And a closed connection has its whole answer, unless its peer left.
 pub consistent_whole : (laws : WindowLaws) (site_contents : SiteContents) (worker_set : WorkerSet) (xs : List Choice)
-    (rs : List Reply) (w : Stage State (Actor worker_set.Worker))
+    (rs : List Reply) (w : WorldState State (Actor worker_set.Worker))
     → Consistent site_contents worker_set xs rs w → ClosedAreWhole site_contents xs rs w.machine
 consistent_whole laws site_contents worker_set xs rs w consistent =
     let s = consistent.in_slots in

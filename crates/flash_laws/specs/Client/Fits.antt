@@ -30,7 +30,7 @@ use Rattle.flash_laws.specs.Run.OfferedBytes.{past_of, taken_by, breaks_off}
 use Rattle.flash_laws.specs.Run.{is_over}
 use Rattle.flash_laws.specs.SiteContents.{SiteContents, MayBeExpected, AllMayShow, Responds, Begins}
 use Rattle.flash_laws.specs.Site.{server}
-use Rattle.flash_laws.specs.Run.Stages.{HasWorkerAt, is_starting}
+use Rattle.flash_laws.specs.Run.WorkerStates.{HasWorkerAt, is_starting}
 use Rattle.flash_laws.specs.declared.phase.FileResult.TheVariants.{Text}
 use Rattle.flash_laws.specs.declared.phase.Payload.TheVariants.{Script}
 use Rattle.flash_laws.specs.declared.phase.Phase.{Phase}

@@ -52,8 +52,8 @@ pub data Actor (W : Type 0) : Type 0 where
   Working : (w : W) → Actor W
 
 -- the server by itself: the turns that it takes, and when it may need memory
-abbrev pub server_account : Policy → TransitionRelation Server
-server_account may = record { goes = server_turns may; may_want = server_wants }
+abbrev pub server_transitions : Policy → TransitionRelation Server
+server_transitions may = record { goes = server_turns may; may_want = server_wants }
 
 -- when a process may need memory
 abbrev pub actor_wants : {W : Type 0} → TransitionRelation W → Actor W → Reply → (readable : ℕ → Option (List ℕ))

@@ -8,7 +8,7 @@ use Rattle.iol_core.specs.declared.descriptors.Descriptor.TheVariants as on
 use Rattle.iol_core.specs.declared.limits.TheConstants.{MAX_QUEUE_BYTES}
 use Rattle.iol_core.specs.declared.events.Reply.{Reply}
 use Rattle.iol_proc.specs.Idle.{Idles}
-use Rattle.iol_proc.specs.World.{Stage, copying}
+use Rattle.iol_proc.specs.World.{WorldState, copying}
 use Rattle.iol_proc.specs.declared.choice.Choice.{Choice}
 use Rattle.flash_laws.specs.Client.{Client, uses_agg, awaits}
 use Rattle.flash_laws.specs.Workers.WorkerSet.{WorkerSet}
@@ -87,7 +87,7 @@ pub record IsDone (site_contents : SiteContents) (workers : ℕ) (m : State) (p 
 abbrev pub IdleIsDone : WorkerSet → Type 0
 IdleIsDone worker_set = ActorsAreQuiescent worker_set.turns worker_set.quiescent
     → (site_contents : SiteContents) (xs : List Choice) (rs : List Reply)
-    (w after : Stage State (Actor worker_set.Worker)) (most : ℕ)
+    (w after : WorldState State (Actor worker_set.Worker)) (most : ℕ)
     → Idles copying (actor_turns in_rounds worker_set.turns) w most true after
     → (consistent : Consistent site_contents worker_set xs rs after)
     → IsDone site_contents worker_set.count after.machine (past_of xs rs) consistent.in_slots.state.clients

@@ -3,7 +3,7 @@ use Rattle.std.specs.Prelude.{ℕ, Bool, List, ◌++◌, length, map, IsTrue}
 use Rattle.iol_core.specs.State.{State}
 use Rattle.iol_core.specs.declared.events.Reply.{Reply}
 use Rattle.iol_proc.specs.Idle.{Idles, rounds}
-use Rattle.iol_proc.specs.World.{Stage, copying, WorldRun, domains_of}
+use Rattle.iol_proc.specs.World.{WorldState, copying, WorldRun, domains_of}
 use Rattle.iol_proc.specs.declared.choice.Choice.{Choice}
 use Rattle.flash_laws.specs.World.Undisturbed.{AreSitePreserving}
 use Rattle.flash_laws.specs.Workers.WorkerSet.{WorkerSet}
@@ -17,7 +17,7 @@ use Rattle.flash_laws.specs.World.Done.{IsDone}
 module _ (worker_set : WorkerSet) where
   -- the result, if turns are refused only as the site contents permit
   pub record IsRight (site_contents : SiteContents) (xs : List Choice) (rs : List Reply) (idle : Bool)
-      (after : Stage State (Actor worker_set.Worker)) : Type 0 where
+      (after : WorldState State (Actor worker_set.Worker)) : Type 0 where
     pub answered : AllAnswered site_contents xs rs after.machine
     pub whole : ClosedAreWhole site_contents xs rs after.machine
     pub consistent : Consistent site_contents worker_set xs rs after
@@ -29,7 +29,8 @@ module _ (worker_set : WorkerSet) where
   abbrev pub HostIsRight : Type 0
   HostIsRight = ActorsAreQuiescent worker_set.turns worker_set.quiescent
       → (site_contents : SiteContents) (xs : List Choice) (rs : List Reply)
-      (w mid after : Stage State (Actor worker_set.Worker)) (most : ℕ) (idle : Bool) → IsNew site_contents worker_set w
+      (w mid after : WorldState State (Actor worker_set.Worker)) (most : ℕ) (idle : Bool)
+      → IsNew site_contents worker_set w
       → (run : WorldRun copying (actor_turns in_rounds worker_set.turns) w xs rs mid)
       → AreSitePreserving (actor_turns in_rounds worker_set.turns) w xs rs mid run
       → (ends : Idles copying (actor_turns in_rounds worker_set.turns) mid most idle after)

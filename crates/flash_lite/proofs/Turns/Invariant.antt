@@ -10,10 +10,10 @@ use Rattle.flash_lite.specs.ServerTurn.{Turns}
 use Rattle.flash_lite.specs.declared.site.TheConstants.{MAX_WORKERS}
 use Rattle.flash_lite.proofs.Few.{few_turn}
 
-pub account_turn : (s t : Table) (last : Reply) (readable : ℕ → Option (List ℕ)) (received : List ℕ) (made : Turn)
+pub transitions_turn : (s t : Table) (last : Reply) (readable : ℕ → Option (List ℕ)) (received : List ℕ) (made : Turn)
     → received ≡ received_of last readable → Turns s last received made t
     → server_turns in_rounds (serving s) last readable made (serving t)
-account_turn s t last readable received made receives turns =
+transitions_turn s t last readable received made receives turns =
     let all : Turns s last (received_of last readable) made t =
     subst (λ (l : List ℕ). Turns s last l made t) receives turns in
     (all.policy, all.picks, all.hired)
@@ -21,7 +21,7 @@ account_turn s t last readable received made receives turns =
 pub kept_turn : (s t : Table) (last : Reply) (readable : ℕ → Option (List ℕ)) (received : List ℕ) (made : Turn)
     → received ≡ received_of last readable → IsBetweenTurns s → Turns s last received made t → IsBetweenTurns t
 kept_turn s t last readable received made receives between turns =
-    let all = account_turn s t last readable received made receives turns in record {
+    let all = transitions_turn s t last readable received made receives turns in record {
       few = few_turn s.workers s.clients s.pending_call last received t.pending_call made t.clients between.few
           turns.picks
           turns.policy;

@@ -5,7 +5,7 @@ use Rattle.iol_core.specs.State.{State}
 use Rattle.iol_core.specs.declared.events.Reply.{Reply}
 use Rattle.iol_proc.specs.Idle.{rounds}
 use Rattle.iol_proc.specs.FailureFree.{FailureFreeRuns}
-use Rattle.iol_proc.specs.World.{Stage, domains_of}
+use Rattle.iol_proc.specs.World.{WorldState, domains_of}
 use Rattle.iol_proc.specs.declared.choice.Choice.{Choice}
 use Rattle.flash_cgi.specs.declared.worker.Worker.{Worker}
 use Rattle.flash_laws.specs.Serves.Rounds.{in_rounds}
@@ -17,7 +17,7 @@ use Rattle.flash_lite.specs.declared.site.Site.{Site}
 use Rattle.flash_lite.proofs.World.Harmless.{run-even}
 
 module _ (s : Site) (slots : List (List ℕ)) (xs : List Choice) (rs : List Reply) (turns : ℕ) (idle : Bool)
-    (after : Stage State (Actor Worker)) (hosts : Hosts s slots xs rs turns idle after) where
+    (after : WorldState State (Actor Worker)) (hosts : Hosts s slots xs rs turns idle after) where
   abbrev in_turns : List Choice
   in_turns = rounds (domains_of hosts.mid.process_slots) 0 (length hosts.ends.went)
 

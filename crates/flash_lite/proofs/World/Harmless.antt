@@ -12,7 +12,7 @@ use Rattle.iol_core.specs.declared.events.Reply.{Reply}
 use Rattle.iol_laws.specs.Frame.{changes_files, admits_to}
 use Rattle.iol_proc.specs.Idle.{Went, rounds}
 use Rattle.iol_proc.specs.Turns.{TransitionRelation}
-use Rattle.iol_proc.specs.World.{Stage, copying, WorldStep, WorldRun}
+use Rattle.iol_proc.specs.World.{WorldState, copying, WorldStep, WorldRun}
 use Rattle.iol_proc.specs.declared.choice.Choice.{Choice}
 use Rattle.iol_proc.specs.declared.choice.Choice.TheVariants as choice
 use Rattle.iol_proc.specs.declared.process_slot.ProcessSlot.{ProcessSlot}
@@ -62,7 +62,7 @@ fair-parts refuses (choice.Turn by) r xs rs fair = ((fair.0, tt), fair.1)
 fair-parts refuses (choice.Outside e) r xs rs fair = (tt, fair)
 
 module _ (site_contents : SiteContents) (worker_set : WorkerSet) where
-  sits-below : (xs : List Choice) (rs : List Reply) (w : Stage State (Actor worker_set.Worker))
+  sits-below : (xs : List Choice) (rs : List Reply) (w : WorldState State (Actor worker_set.Worker))
       → Consistent site_contents worker_set xs rs w
       → (i : ℕ) (s : ProcessSlot (Actor worker_set.Worker)) → slice_get w.process_slots i ≡ Some s
       → s.by < server + worker_set.count + 1
@@ -88,7 +88,7 @@ module _ (site_contents : SiteContents) (worker_set : WorkerSet) where
 
   module _ (stays : SiteStays) where
     step-site_preserving : (xs : List Choice) (rs : List Reply) (x : Choice) (r : Reply)
-        (w after : Stage State (Actor worker_set.Worker))
+        (w after : WorldState State (Actor worker_set.Worker))
         → WorldStep copying (actor_turns in_rounds worker_set.turns) w x r after → IsHarmless worker_set.count x
         → Consistent site_contents worker_set xs rs w → IsSitePreserving w x after
     step-site_preserving xs rs (choice.Outside (event.Call d k)) r w after step harmless consistent = (
@@ -107,7 +107,7 @@ module _ (site_contents : SiteContents) (worker_set : WorkerSet) where
 
     pub all-site_preserving : (keeps : StepKeepsConsistency in_rounds worker_set) (past xs : List Choice)
         (ps rs : List Reply)
-        (w after : Stage State (Actor worker_set.Worker))
+        (w after : WorldState State (Actor worker_set.Worker))
         → (run : WorldRun copying (actor_turns in_rounds worker_set.turns) w xs rs after)
         → Consistent site_contents worker_set past ps w → AreFair site_contents.refuses xs rs
         → AllByRecursion (λ x. IsHarmless worker_set.count x) xs
@@ -139,7 +139,7 @@ past-rounds ds i xs rs (t ∷ ts) even =
     (even-more xs rs (choice.Turn by) t.1 even) ∙ past-turn xs rs by t.1 even))
 
 pub run-even : {P : Type 0} (turns : TransitionRelation P) (xs : List Choice) (rs : List Reply)
-    (w after : Stage State P) → WorldRun copying turns w xs rs after
+    (w after : WorldState State P) → WorldRun copying turns w xs rs after
     → length xs ≡ length rs
 run-even turns [] [] w after run = refl
 run-even turns (x ∷ xs) (r ∷ rs) w after run = ap suc (run-even turns xs rs run.0 after run.2)
@@ -153,7 +153,7 @@ module _ (site_contents : SiteContents) (worker_set : WorkerSet) where
 
   -- if a run that ends with turns is right, so is the run before them
   pub right-before : (ds : List ℕ) (xs : List Choice) (rs : List Reply) (ts : List Went) (idle : Bool)
-      (after : Stage State (Actor worker_set.Worker))
+      (after : WorldState State (Actor worker_set.Worker))
       → length xs ≡ length rs
       → IsRight worker_set site_contents (xs ++ rounds ds 0 (length ts)) (rs ++ map (λ t. t.1) ts) idle after
       → IsRight worker_set site_contents xs rs idle after

@@ -5,7 +5,7 @@ use Rattle.iol_core.specs.Positions.{ArePlaced}
 use Rattle.iol_core.specs.State.{State, new_state}
 use Rattle.iol_core.specs.declared.events.Reply.{Reply}
 use Rattle.iol_proc.specs.Idle.{Idles}
-use Rattle.iol_proc.specs.World.{Stage, copied, copying, domains_of, process_slot_of, WorldRun}
+use Rattle.iol_proc.specs.World.{WorldState, copied, copying, domains_of, process_slot_of, WorldRun}
 use Rattle.iol_proc.specs.declared.choice.Choice.{Choice}
 use Rattle.iol_system.specs.Machine.{SystemState, machine_of}
 use Rattle.flash_cgi.specs.declared.worker.Worker.{Worker}
@@ -19,7 +19,7 @@ use Rattle.flash_lite.specs.Workers.{worker_turns}
 use Rattle.flash_lite.specs.declared.site.Site.{Site}
 use Rattle.flash_lite.proofs.World.ProcessSlots.{in_slots_by}
 
-pub world_new : (s : Site) (slots : List (List ℕ)) (old sys : SystemState) (w : Stage SystemState (Actor Worker))
+pub world_new : (s : Site) (slots : List (List ℕ)) (old sys : SystemState) (w : WorldState SystemState (Actor Worker))
     (ps : List (ℕ × Actor Worker)) → machine_of old ≡ new_state slots → ArePlaced (machine_of old)
     → LeavesSite s (machine_of old) (machine_of sys)
     → (machine_of sys).slots ≡ (machine_of old).slots
@@ -40,7 +40,7 @@ world_new s slots old sys w ps begins placed leaves same new procs machine proce
     }
 
 pub hosted : (s : Site) (slots : List (List ℕ)) (xs : List Choice) (rs : List Reply) (turns : ℕ) (idle : Bool)
-    (w mid after : Stage State (Actor Worker)) → IsNewWorld s slots w
+    (w mid after : WorldState State (Actor Worker)) → IsNewWorld s slots w
     → WorldRun copying (actor_turns in_rounds worker_turns) w xs rs mid
     → Idles copying (actor_turns in_rounds worker_turns) mid turns idle after
     → Hosts s slots xs rs turns idle after

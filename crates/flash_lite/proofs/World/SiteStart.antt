@@ -14,7 +14,7 @@ use Rattle.iol_core.specs.declared.refusals.Refusal.{Refusal}
 use Rattle.iol_system.specs.Prelude.{no_entry, slots_of}
 use Rattle.iol_proc.specs.Idle.{Idles}
 use Rattle.iol_proc.specs.Laws.{HasEvents}
-use Rattle.iol_proc.specs.World.{Stage, domains_of, sharing, process_slot_of, WorldRun}
+use Rattle.iol_proc.specs.World.{WorldState, domains_of, sharing, process_slot_of, WorldRun}
 use Rattle.iol_proc.specs.declared.choice.Choice.{Choice}
 use Rattle.iol_proc.proofs.Chains.{honesty_kept}
 use Rattle.iol_system.specs.Machine.{SystemState, machine_of}
@@ -54,7 +54,7 @@ begun_by config store s machine disk entries taken limit sums sum_limit orders s
 -- ---- a world that starts
 
 pub starts_by : (config : Config) (store : Disk) (s : Site) (begun sys : SystemState)
-    (w : Stage SystemState (Actor Worker))
+    (w : WorldState SystemState (Actor Worker))
     (ps : List (ℕ × Actor Worker)) → IsNewSystem config store begun → IsMade s begun sys
     → LeavesSite s (machine_of begun) (machine_of sys) → AreActors s ps → w.machine ≡ sys
     → IsPermutation (map process_slot_of ps) w.process_slots → IsStrictlyIncreasing (domains_of w.process_slots)
@@ -101,7 +101,7 @@ made_events s old new made = record { events = calls s; replies = made.replies; 
 
 pub hosted_over : (config : Config) (store : Disk) (s : Site) (xs : List Choice) (rs : List Reply) (turns : ℕ)
     (idle : Bool)
-    (first mid after : Stage SystemState (Actor Worker)) → Starts config store s first
+    (first mid after : WorldState SystemState (Actor Worker)) → Starts config store s first
     → WorldRun sharing (actor_turns in_rounds worker_turns) first xs rs mid → HasEvents first.machine mid.machine
     → Idles sharing (actor_turns in_rounds worker_turns) mid turns idle after → HasEvents mid.machine after.machine
     → HostsOver config store s xs rs turns idle after

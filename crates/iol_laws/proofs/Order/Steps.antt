@@ -25,7 +25,7 @@ use Rattle.iol_laws.proofs.Order.Counts.{HasOpen, all_stand_balanced, held_balan
 use Rattle.iol_laws.proofs.Order.PoolLists.{listed_meant, pool-unmade}
 use Rattle.iol_laws.proofs.Order.NumbersToCome.{below_meant}
 use Rattle.iol_laws.proofs.Tests.{both-true}
-use Rattle.iol_laws.proofs.Order.WaitingConns.{quiet_meant}
+use Rattle.iol_laws.proofs.Order.WaitingConns.{waiting_meant}
 
 pipe-unmade : (s : State) (p : ℕ) → in_place s.pipes p ≡ None → pipe_at s p ≡ no_pipe
 unfolding pipe_at
@@ -44,7 +44,7 @@ orderly_meant : (s : State) (e : Event) → IsOrderly s → first (meaning s e).
     → IsOrderly (meaning s e).after
 orderly_meant s e order unrefused =
     let balance = balanced_meant s e order unrefused in
-    let q = quiet_meant s e order in
+    let q = waiting_meant s e order in
     let below = below_meant s e (λ d. record { below = order.aggs d; once = order.aggs_once d }) in
     let gone = gone_meant s e (gone_of s order) unrefused in
     record {

@@ -19,17 +19,17 @@ use Rattle.iol_laws.proofs.Connections.{after-with_conn, conn-made, conn-push, c
 use Rattle.iol_laws.proofs.Connections.{none-with_conn, once-push, once-with_conn}
 use Rattle.iol_laws.proofs.Places.{lookup-push_other}
 
-pub record AllQuiet (s : State) : Type 0 where
+pub record AreWaiting (s : State) : Type 0 where
   pub waits : (c : ℕ) → (conn_at s c).accepted ≡ false → (conn_at s c).closed ≡ false
   pub silent : (c : ℕ) → (conn_at s c).accepted ≡ false → (conn_at s c).outgoing ≡ []
   pub once : Once s.conns
   pub conns : (c : ℕ) → s.next_conn ≤ c → lookup s.conns c ≡ None
 
-pub quiet_of : (s : State) → IsOrderly s → AllQuiet s
-quiet_of s order = record { waits = order.waits; silent = order.silent; once = order.once; conns = order.conns }
+pub waiting_of : (s : State) → IsOrderly s → AreWaiting s
+waiting_of s order = record { waits = order.waits; silent = order.silent; once = order.once; conns = order.conns }
 
-pub quiet_same : (s t : State) → t.conns ≡ s.conns → t.next_conn ≡ s.next_conn → AllQuiet s → AllQuiet t
-quiet_same s t same next q = record {
+pub waiting_same : (s t : State) → t.conns ≡ s.conns → t.next_conn ≡ s.next_conn → AreWaiting s → AreWaiting t
+waiting_same s t same next q = record {
   waits = λ c is. ap (λ (k : Connection). k.closed) (at c)
       ∙ q.waits c (sym (ap (λ (k : Connection). k.accepted) (at c)) ∙ is);
   silent = λ c is. ap (λ (k : Connection). k.outgoing) (at c)
@@ -44,8 +44,8 @@ quiet_same s t same next q = record {
 abbrev Fine : Connection → Type 0
 Fine x = (x.accepted ≡ false → x.closed ≡ false) × (x.accepted ≡ false → x.outgoing ≡ [])
 
-pub quiet_conn : (s : State) (c : ℕ) (x : Connection) → Fine x → AllQuiet s → AllQuiet (with_conn s c x)
-quiet_conn s c x fine q = record {
+pub waiting_conn : (s : State) (c : ℕ) (x : Connection) → Fine x → AreWaiting s → AreWaiting (with_conn s c x)
+waiting_conn s c x fine q = record {
   waits = λ k is. (each k).0 is;
   silent = λ k is. (each k).1 is;
   once = once-with_conn s c x q.once;
@@ -65,24 +65,24 @@ quiet_conn s c x fine q = record {
 accepted-fine : (x : Connection) → x.accepted ≡ true → Fine x
 accepted-fine x is = (λ a. absurd (cc (is, a)), λ a. absurd (cc (is, a)))
 
-quiet_turned : (s : State) (e : ℕ × Change) → IsAllowed s e → AllQuiet s → AllQuiet (turned s e)
-quiet_turned s (c, Reads n) may q = quiet_conn s c _ (q.waits c, q.silent c) q
-quiet_turned s (c, Writes w) may q = quiet_conn s c _ (accepted-fine (changed_by (Writes w) (conn_at s c)) may.0) q
-quiet_turned s (c, Closes) may q = quiet_conn s c _ (accepted-fine (changed_by Closes (conn_at s c)) may) q
-quiet_turned s (c, Takes) may q = quiet_conn s c _ (accepted-fine (changed_by Takes (conn_at s c)) refl) q
+waiting_turned : (s : State) (e : ℕ × Change) → IsAllowed s e → AreWaiting s → AreWaiting (turned s e)
+waiting_turned s (c, Reads n) may q = waiting_conn s c _ (q.waits c, q.silent c) q
+waiting_turned s (c, Writes w) may q = waiting_conn s c _ (accepted-fine (changed_by (Writes w) (conn_at s c)) may.0) q
+waiting_turned s (c, Closes) may q = waiting_conn s c _ (accepted-fine (changed_by Closes (conn_at s c)) may) q
+waiting_turned s (c, Takes) may q = waiting_conn s c _ (accepted-fine (changed_by Takes (conn_at s c)) refl) q
 
-quiet_all : (s : State) (es : List (ℕ × Change)) → AllAllowed s es → AllQuiet s → AllQuiet (all_turned s es)
-quiet_all s [] may q = q
-quiet_all s (e ∷ es) may q = quiet_all (turned s e) es may.1 (quiet_turned s e may.0 q)
+waiting_all : (s : State) (es : List (ℕ × Change)) → AllAllowed s es → AreWaiting s → AreWaiting (all_turned s es)
+waiting_all s [] may q = q
+waiting_all s (e ∷ es) may q = waiting_all (turned s e) es may.1 (waiting_turned s e may.0 q)
 
-quiet_called : (s : State) (by : ℕ) (k : Call) → IsOrderly s → AllQuiet (called s by k).after
-quiet_called s by k order =
+waiting_called : (s : State) (by : ℕ) (k : Call) → IsOrderly s → AreWaiting (called s by k).after
+waiting_called s by k order =
     let same = conns_turned s by k in
-    quiet_same (all_turned s (changes s by k)) (called s by k).after same.conns same.next
-    (quiet_all s (changes s by k) (allowed_called s by k order) (quiet_of s order))
+    waiting_same (all_turned s (changes s by k)) (called s by k).after same.conns same.next
+    (waiting_all s (changes s by k) (allowed_called s by k order) (waiting_of s order))
 
-quiet_conn_new : (s : State) (p : ℕ) → AllQuiet s → AllQuiet (conn_new s p).after
-quiet_conn_new s p q = record {
+waiting_conn_new : (s : State) (p : ℕ) → AreWaiting s → AreWaiting (conn_new s p).after
+waiting_conn_new s p q = record {
   waits = λ c is. elim (cases_eq s.next_conn c) [
     | inl same ↦
         subst (λ n. (conn_at (conn_new s p).after n).closed ≡ false) same (ap (λ (k : Connection). k.closed) made)
@@ -106,17 +106,19 @@ quiet_conn_new s p q = record {
     made : conn_at (conn_new s p).after s.next_conn ≡ new_conn p
     made = conn-made s p none
 
-pub quiet_meant : (s : State) (e : Event) → IsOrderly s → AllQuiet (meaning s e).after
-quiet_meant s (event.Call by k) order = quiet_called s by k order
-quiet_meant s (event.ConnNew p) order = quiet_conn_new s p (quiet_of s order)
-quiet_meant s (event.Arrive c bytes) order = quiet_conn s c _ (order.waits c, order.silent c) (quiet_of s order)
-quiet_meant s (event.PeerClosed c ways.Done) order = quiet_conn s c _ (order.waits c, order.silent c) (quiet_of s order)
-quiet_meant s (event.PeerClosed c ways.Gone) order = quiet_conn s c _ (order.waits c, λ is. refl) (quiet_of s order)
-quiet_meant s (event.Transmit c max) order =
-    quiet_conn s c _ (order.waits c, λ is. ap (λ (t : Text). drop max t) (order.silent c is) ∙ none max)
-    (quiet_of s order)
+pub waiting_meant : (s : State) (e : Event) → IsOrderly s → AreWaiting (meaning s e).after
+waiting_meant s (event.Call by k) order = waiting_called s by k order
+waiting_meant s (event.ConnNew p) order = waiting_conn_new s p (waiting_of s order)
+waiting_meant s (event.Arrive c bytes) order = waiting_conn s c _ (order.waits c, order.silent c) (waiting_of s order)
+waiting_meant s (event.PeerClosed c ways.Done) order =
+    waiting_conn s c _ (order.waits c, order.silent c) (waiting_of s order)
+waiting_meant s (event.PeerClosed c ways.Gone) order =
+    waiting_conn s c _ (order.waits c, λ is. refl) (waiting_of s order)
+waiting_meant s (event.Transmit c max) order =
+    waiting_conn s c _ (order.waits c, λ is. ap (λ (t : Text). drop max t) (order.silent c is) ∙ none max)
+    (waiting_of s order)
   where
     none : (n : ℕ) → drop {A = ℕ × ℕ} n [] ≡ []
     none zero = refl
     none (suc n) = refl
-quiet_meant s e order = quiet_of s order
+waiting_meant s e order = waiting_of s order

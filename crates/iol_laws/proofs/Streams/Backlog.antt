@@ -162,11 +162,11 @@ unread_all_peer_closed s t e how (Err x) c order step waits =
     unread_all_same s t c (ap (λ (u : State). (conn_at u c).incoming) step.1)
 
 -- what changes nothing
-unread_all_calm : (s t : State) (m : Meaning Reply) (r : Result Reply Refusal) (c : ℕ) → m.after ≡ s → Step m s r t
+unread_all_after : (s t : State) (m : Meaning Reply) (r : Result Reply Refusal) (c : ℕ) → m.after ≡ s → Step m s r t
     → IsAllUnread s c [] [] t
-unread_all_calm s t m (Ok a) c same step =
+unread_all_after s t m (Ok a) c same step =
     unread_all_same s t c (ap (λ (u : State). (conn_at u c).incoming) (step.2 ∙ same))
-unread_all_calm s t m (Err x) c same step = unread_all_same s t c (ap (λ (u : State). (conn_at u c).incoming) step.1)
+unread_all_after s t m (Err x) c same step = unread_all_same s t c (ap (λ (u : State). (conn_at u c).incoming) step.1)
 
 unread_all_call : (s t : State) (d : ℕ) (k : Call) (r : Reply) (c : ℕ) → IsOrderly s → StepsTo s (event.Call d k) r t
     → (conn_at s c).accepted ≡ false → (conn_at t c).accepted ≡ false → IsAllUnread s c [] [] t
@@ -186,9 +186,9 @@ unread_all_step s t (event.PeerClosed e how) r c order step waits still =
 unread_all_step s t (event.Transmit e max) r c order step waits still =
     unread_all_transmit s t e max r c order step waits
 unread_all_step s t event.Flush r c order step waits still =
-    unread_all_calm s t (meaning s event.Flush) (outcome r) c refl step
+    unread_all_after s t (meaning s event.Flush) (outcome r) c refl step
 unread_all_step s t event.DropClean r c order step waits still =
-    unread_all_calm s t (meaning s event.DropClean) (outcome r) c refl step
+    unread_all_after s t (meaning s event.DropClean) (outcome r) c refl step
 
 -- Over a run.
 

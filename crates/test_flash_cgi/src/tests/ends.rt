@@ -1,6 +1,6 @@
 //! Scripts whose output has no reader, texts that are no jobs, and the end of the job pipe.
 use super::rows::{OUTPUT, close, give, is_put_out, job_of};
-use super::stage::{Stage, on_stage};
+use super::worker_world::{WorkerWorld, in_worker_world};
 use iol_core::events::{Call, Reply};
 use iol_core::lists::Bytes;
 use iol_core::refusals::Refusal;
@@ -9,8 +9,8 @@ use std::test::Fail;
 use test_parts::checks::pass;
 
 // Returns whether this descriptor of the worker, and the next, are free.
-fn has_free(stage: &mut Stage, fd: u32) -> bool {
-    match stage.call(2, Call::Pipe) {
+fn has_free(world: &mut WorkerWorld, fd: u32) -> bool {
+    match world.call(2, Call::Pipe) {
         Reply::Fds(read, write) => read.number() == fd && write.number() == fd.saturating_add(1),
         _ => false,
     }
@@ -18,20 +18,20 @@ fn has_free(stage: &mut Stage, fd: u32) -> bool {
 
 // The pipe is closed before the script begins: the script ends at its first write, and the next
 // job is run.
-fn proceeds(stage: &mut Stage, unread: Bytes, next: Bytes) -> bool {
-    give(stage, unread)
-        && close(stage, 0)
-        && stage.quiesce()
-        && give(stage, next)
-        && is_put_out(stage, b"x\n")
-        && has_free(stage, OUTPUT)
+fn proceeds(world: &mut WorkerWorld, unread: Bytes, next: Bytes) -> bool {
+    give(world, unread)
+        && close(world, 0)
+        && world.quiesce()
+        && give(world, next)
+        && is_put_out(world, b"x\n")
+        && has_free(world, OUTPUT)
 }
 
 fn ends_unread(alloc: Global) -> Result<bool, Refusal> {
     let unread = job_of(alloc, OUTPUT, "", "emit a\nquery\nemit b")?;
     let next = job_of(alloc, OUTPUT, "x", "query")?;
-    on_stage(alloc, |stage| {
-        proceeds(stage, unread, next) && !stage.is_resource_failure()
+    in_worker_world(alloc, |world| {
+        proceeds(world, unread, next) && !world.is_resource_failure()
     })
 }
 
@@ -41,18 +41,18 @@ fn broken_pipe_ends_the_script(rt: HostRuntime) -> Result<(), Fail> {
 }
 
 // A text that is no job is dropped, and the descriptor for its output stays with the worker.
-fn passes_over(stage: &mut Stage, none: Bytes, next: Bytes) -> bool {
-    give(stage, none)
-        && stage.quiesce()
-        && close(stage, 0)
-        && give(stage, next)
-        && is_put_out(stage, b"x\n")
+fn passes_over(world: &mut WorkerWorld, none: Bytes, next: Bytes) -> bool {
+    give(world, none)
+        && world.quiesce()
+        && close(world, 0)
+        && give(world, next)
+        && is_put_out(world, b"x\n")
 }
 
 fn drops_no_job(alloc: Global, script: &str) -> Result<bool, Refusal> {
     let none = job_of(alloc, OUTPUT, "", script)?;
     let next = job_of(alloc, OUTPUT + 1, "x", "query")?;
-    on_stage(alloc, |stage| passes_over(stage, none, next))
+    in_worker_world(alloc, |world| passes_over(world, none, next))
 }
 
 #[test]
@@ -66,19 +66,19 @@ fn what_begins_as_a_job_is_dropped(rt: HostRuntime) -> Result<(), Fail> {
 }
 
 // The job pipe ends after a job: the job is run, and then the worker makes no more calls.
-fn stops(stage: &mut Stage, job: Bytes) -> bool {
-    give(stage, job)
-        && close(stage, 1)
-        && is_put_out(stage, b"x\n")
-        && stage.quiesce()
-        && has_free(stage, OUTPUT)
+fn stops(world: &mut WorkerWorld, job: Bytes) -> bool {
+    give(world, job)
+        && close(world, 1)
+        && is_put_out(world, b"x\n")
+        && world.quiesce()
+        && has_free(world, OUTPUT)
 }
 
 fn stops_at_the_end(alloc: Global) -> Result<bool, Refusal> {
     let job = job_of(alloc, OUTPUT, "x", "query")?;
-    on_stage(
+    in_worker_world(
         alloc,
-        |stage| stops(stage, job) && !stage.is_resource_failure(),
+        |world| stops(world, job) && !world.is_resource_failure(),
     )
 }
 

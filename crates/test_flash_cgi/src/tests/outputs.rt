@@ -1,6 +1,6 @@
 //! The output of scripts.
 use super::rows::{OUTPUT, Row, give, held, is_put_out};
-use super::stage::{on_stage, stage_of};
+use super::worker_world::{in_worker_world, worker_world};
 use flash_cgi::jobs::job_text;
 use iol_core::numbers::Fd;
 use iol_core::refusals::Refusal;
@@ -95,8 +95,8 @@ fn many_texts(alloc: Global) -> Result<bool, Refusal> {
     let script = repeated(alloc, b"emit abc\n", 1500)?;
     let wanted = repeated(alloc, b"abc\n", 1500)?;
     let job = job_text(alloc, Fd::new(OUTPUT), b"", &script)?;
-    on_stage(alloc, |stage| {
-        give(stage, job) && is_put_out(stage, &wanted) && !stage.is_resource_failure()
+    in_worker_world(alloc, |world| {
+        give(world, job) && is_put_out(world, &wanted) && !world.is_resource_failure()
     })
 }
 
@@ -114,8 +114,8 @@ fn small_pieces(alloc: Global, lines: &[u8], output: &[u8]) -> Result<bool, Refu
     let script = repeated(alloc, lines, 100)?;
     let wanted = repeated(alloc, output, 100)?;
     let job = job_text(alloc, Fd::new(OUTPUT), b"q", &script)?;
-    lend(stage_of(alloc, &FILES), |stage| {
-        give(stage, job) && is_put_out(stage, &wanted) && !stage.is_resource_failure()
+    lend(worker_world(alloc, &FILES), |world| {
+        give(world, job) && is_put_out(world, &wanted) && !world.is_resource_failure()
     })
 }
 

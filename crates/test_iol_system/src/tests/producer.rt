@@ -35,7 +35,7 @@ impl Producer {
 
     /// Makes a piece, writes it, and drops it. If the pipe is full it yields, and retries.
     pub fn turn(&mut self, last: &Reply) -> Result<Turn, AllocError>
-        ensures quiet { IfOk result IsCopyFree }
+        ensures copy_free { IfOk result IsCopyFree }
         ensures err { OnErr result (self.new ≡ self.old) }
     {
         match last {
@@ -61,7 +61,7 @@ impl Producer {
 
     // The next piece, or the end.
     fn make(&mut self) -> Result<Turn, AllocError>
-        ensures quiet { IfOk result IsCopyFree }
+        ensures copy_free { IfOk result IsCopyFree }
         ensures err { OnErr result (self.new ≡ self.old) }
     {
         if self.left > 0 {

@@ -22,7 +22,7 @@ use Rattle.flash_laws.specs.Answers.Scripts.{script_text, frame_of, place_in_fra
 use Rattle.flash_laws.specs.Site.ClientConsistency.{AreAtJobQueues}
 use Rattle.flash_laws.specs.SiteContents.{SiteContents}
 use Rattle.flash_laws.specs.Site.{server}
-use Rattle.flash_laws.specs.Run.Stages.{HasWorkerAt, AtJobQueue}
+use Rattle.flash_laws.specs.Run.WorkerStates.{HasWorkerAt, AtJobQueue}
 use Rattle.flash_laws.specs.World.Done.{IsHeldUp}
 use Rattle.flash_laws.specs.declared.phase.Phase.{Phase}
 use Rattle.flash_laws.specs.declared.phase.Phase.TheVariants as phase
@@ -114,7 +114,7 @@ module _ (site_contents : SiteContents) (worker_set : WorkerSet) (laws : AllLaws
         let full = laws.the.reasons.pipe_is_full m m server (job_pipe run.worker) (worker_set.job_queue run.worker) j
         (job_queues.job_queues run.worker among) step in
         let none =
-        laws.workers.none m (worker_set.job_queue run.worker) job_queue.process_slot job_queue.stage.0.ready.free in
+        laws.workers.none m (worker_set.job_queue run.worker) job_queue.process_slot job_queue.at_step.0.ready.free in
         not-full (pipe_at m (worker_set.job_queue run.worker)).queue none.empty full
 
     -- a read of output never waits: in idle moments the pipe of a worker with more output is full, and else its write
@@ -123,12 +123,12 @@ module _ (site_contents : SiteContents) (worker_set : WorkerSet) (laws : AllLaws
         → AtJobQueue worker_set m process_slots run made o (ReadingOutput held frame)
         → WouldWait m server (call.IolRead run.from n) → ⊥
     receives held frame n job_queue step =
-        let has = job_queue.stage.has in
+        let has = job_queue.at_step.has in
         let empty = laws.the.reasons.pipe_is_empty m m server run.from has.pipe n has.reads step in
-        elim job_queue.stage.puts_out [
+        elim job_queue.at_step.puts_out [
           | inl expected ↦ not-full (pipe_at m has.pipe).queue empty.0
               (laws.workers.full m (worker_set.job_queue run.worker) has.pipe job_queue.process_slot made
-              job_queue.stage.more order fixed.access expected
+              job_queue.at_step.more order fixed.access expected
               (quiescent run.worker job_queue.process_slot job_queue.sits))
           | inr there ↦ clash (pipe_at m has.pipe).writing empty.1 there.closed
         ]

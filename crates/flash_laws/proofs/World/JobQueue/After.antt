@@ -10,7 +10,7 @@ use Rattle.flash_laws.specs.Workers.WorkerSet.{WorkerSet}
 use Rattle.flash_laws.specs.Site.Places.{has_worker}
 use Rattle.flash_laws.specs.Run.Fits.{Progress, MayAnswer}
 use Rattle.flash_laws.specs.Run.OfferedBytes.{breaks_off}
-use Rattle.flash_laws.specs.Run.Stages.{HasWorkerAt, Stage}
+use Rattle.flash_laws.specs.Run.WorkerStates.{HasWorkerAt, IsAtStep}
 use Rattle.flash_laws.specs.declared.script_run.Run.{Run}
 use Rattle.flash_laws.specs.declared.script_run.Step.{Step}
 use Rattle.flash_laws.specs.declared.script_run.Running.{Running}
@@ -59,12 +59,12 @@ module _ (worker_set : WorkerSet) (m n : State) (c : ℕ) (process_slots : List 
   -- the run continues with its worker
   pub proceeds : (run next : Run) (step later : Step) (process_slot : ProcessSlot worker_set.Worker)
       → next.worker ≡ run.worker → slice_get process_slots next.worker ≡ Some process_slot
-      → Stage worker_set n process_slot next made after later
+      → IsAtStep worker_set n process_slot next made after later
       → MayOn (response_to w made) w (InProgress run step) (InProgress next later) o after
       → CutBy m c (InProgress run step) (InProgress next later)
       → After (InProgress run step) (InProgress next later)
-  proceeds run next step later process_slot same sits stage may cut = record {
-    job_queue = record { process_slot = process_slot; sits = sits; stage = stage };
+  proceeds run next step later process_slot same sits at_step may cut = record {
+    job_queue = record { process_slot = process_slot; sits = sits; at_step = at_step };
     freed = λ k other at was now. absurd (clash (run.worker == k) was (ap (λ j. j == k) (sym same) ∙ now));
     may = may;
     cut = cut;
@@ -74,7 +74,7 @@ module _ (worker_set : WorkerSet) (m n : State) (c : ℕ) (process_slots : List 
   pub same_on : (run : Run) (step later : Step) (process_slot : ProcessSlot worker_set.Worker)
       → slice_get process_slots run.worker ≡ Some process_slot → after ≡ o
       → CutBy m c (InProgress run step) (InProgress run later)
-      → Stage worker_set n process_slot run made after later → After (InProgress run step) (InProgress run later)
-  same_on run step later process_slot sits same cut stage =
-      proceeds run run step later process_slot refl sits stage
+      → IsAtStep worker_set n process_slot run made after later → After (InProgress run step) (InProgress run later)
+  same_on run step later process_slot sits same cut at_step =
+      proceeds run run step later process_slot refl sits at_step
       (may_same (response_to w made) w (InProgress run step) (InProgress run later) o after same) cut

@@ -22,7 +22,7 @@ use Rattle.flash_laws.specs.Run.{worker_domain}
 use Rattle.flash_laws.specs.Site.ClientConsistency.{AreAtJobQueues}
 use Rattle.flash_laws.specs.SiteContents.{SiteContents}
 use Rattle.flash_laws.specs.Site.{server}
-use Rattle.flash_laws.specs.Run.Stages.{IsReadyFor, IsGiven, IsPuttingOut, HasPutOut, IsToCome}
+use Rattle.flash_laws.specs.Run.WorkerStates.{IsReadyFor, IsGiven, IsPuttingOut, HasPutOut, IsToCome}
 use Rattle.flash_laws.specs.declared.script_run.Run.{Run}
 use Rattle.flash_laws.specs.declared.script_run.Running.{Running}
 use Rattle.flash_laws.proofs.Lists.{not-equal}
@@ -32,14 +32,14 @@ use Rattle.flash_laws.proofs.World.AllLaws.{AllLaws}
 -- ---- calls that touch no pipe, and move no descriptor
 
 -- calls on aggregates, and a write to the client's connection
-abbrev pub Quiet : (fd : ℕ) → Call → Type 0
-Quiet fd (call.AggMake bytes) = Unit {0}
-Quiet fd (call.AggCut a from to) = Unit {0}
-Quiet fd (call.AggJoin a b) = Unit {0}
-Quiet fd (call.AggReplace a from to b) = Unit {0}
-Quiet fd (call.AggDrop a) = Unit {0}
-Quiet fd (call.IolWrite g a) = g ≡ fd
-Quiet fd k = ⊥
+abbrev pub TouchesNoPipe : (fd : ℕ) → Call → Type 0
+TouchesNoPipe fd (call.AggMake bytes) = Unit {0}
+TouchesNoPipe fd (call.AggCut a from to) = Unit {0}
+TouchesNoPipe fd (call.AggJoin a b) = Unit {0}
+TouchesNoPipe fd (call.AggReplace a from to b) = Unit {0}
+TouchesNoPipe fd (call.AggDrop a) = Unit {0}
+TouchesNoPipe fd (call.IolWrite g a) = g ≡ fd
+TouchesNoPipe fd k = ⊥
 
 -- all pipes and the server's descriptors are unchanged
 pub record Still (m n : State) : Type 0 where
@@ -50,28 +50,29 @@ module _ (m : State) (fd c : ℕ) (open_on : descriptor m server fd ≡ Some (on
   at_conn : (g : ℕ) → g ≡ fd → descriptor m server g ≡ Some (on.Connection c)
   at_conn g same = ap (λ z. descriptor m server z) same ∙ open_on
 
-  untouched : (k : Call) → Quiet fd k → (p : ℕ) → touches_pipe m (event.Call server k) p ≡ false
-  untouched (call.AggMake bytes) quiet p = refl
-  untouched (call.AggCut a from to) quiet p = refl
-  untouched (call.AggJoin a b) quiet p = refl
-  untouched (call.AggReplace a from to b) quiet p = refl
-  untouched (call.AggDrop a) quiet p = refl
-  untouched (call.IolWrite g a) quiet p = ap (λ o. list_any (is_end p) (o ∷ []) || false) (at_conn g quiet)
-  untouched k quiet p = absurd quiet
+  untouched : (k : Call) → TouchesNoPipe fd k → (p : ℕ) → touches_pipe m (event.Call server k) p ≡ false
+  untouched (call.AggMake bytes) touches_none p = refl
+  untouched (call.AggCut a from to) touches_none p = refl
+  untouched (call.AggJoin a b) touches_none p = refl
+  untouched (call.AggReplace a from to b) touches_none p = refl
+  untouched (call.AggDrop a) touches_none p = refl
+  untouched (call.IolWrite g a) touches_none p =
+      ap (λ o. list_any (is_end p) (o ∷ []) || false) (at_conn g touches_none)
+  untouched k touches_none p = absurd touches_none
 
-  unmoved : (k : Call) → Quiet fd k → (g : ℕ) → touches_fd m (event.Call server k) server g ≡ false
-  unmoved (call.AggMake bytes) quiet g = refl
-  unmoved (call.AggCut a from to) quiet g = refl
-  unmoved (call.AggJoin a b) quiet g = refl
-  unmoved (call.AggReplace a from to b) quiet g = refl
-  unmoved (call.AggDrop a) quiet g = refl
-  unmoved (call.IolWrite f a) quiet g = no-position m f g (on.Connection c) (at_conn f quiet) refl
-  unmoved k quiet g = absurd quiet
+  unmoved : (k : Call) → TouchesNoPipe fd k → (g : ℕ) → touches_fd m (event.Call server k) server g ≡ false
+  unmoved (call.AggMake bytes) touches_none g = refl
+  unmoved (call.AggCut a from to) touches_none g = refl
+  unmoved (call.AggJoin a b) touches_none g = refl
+  unmoved (call.AggReplace a from to b) touches_none g = refl
+  unmoved (call.AggDrop a) touches_none g = refl
+  unmoved (call.IolWrite f a) touches_none g = no-position m f g (on.Connection c) (at_conn f touches_none) refl
+  unmoved k touches_none g = absurd touches_none
 
-  pub still : (n : State) (k : Call) → Leaves m (event.Call server k) n → Quiet fd k → Still m n
-  still n k leaves quiet = record {
-    pipes = λ p. leaves.pipes p (untouched k quiet p);
-    fds = λ g x is. leaves.fds server g x is (unmoved k quiet g);
+  pub still : (n : State) (k : Call) → Leaves m (event.Call server k) n → TouchesNoPipe fd k → Still m n
+  still n k leaves touches_none = record {
+    pipes = λ p. leaves.pipes p (untouched k touches_none p);
+    fds = λ g x is. leaves.fds server g x is (unmoved k touches_none g);
   }
 
 -- ---- the calls of a run

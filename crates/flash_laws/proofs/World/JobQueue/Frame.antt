@@ -34,7 +34,7 @@ use Rattle.flash_laws.specs.Run.Fits.{Progress, HasStep}
 use Rattle.flash_laws.specs.Run.OfferedBytes.{is_stopping}
 use Rattle.flash_laws.specs.Run.{worker_domain, is_reading, step_agg}
 use Rattle.flash_laws.specs.Site.{server, KeepsSite}
-use Rattle.flash_laws.specs.Run.Stages.{HasPipeOf, IsReadyFor, IsGiven, IsPuttingOut, HasPutOut, Stage}
+use Rattle.flash_laws.specs.Run.WorkerStates.{HasPipeOf, IsReadyFor, IsGiven, IsPuttingOut, HasPutOut, IsAtStep}
 use Rattle.flash_laws.specs.declared.script_run.Run.{Run}
 use Rattle.flash_laws.specs.declared.script_run.Step.{Step}
 use Rattle.flash_laws.specs.declared.script_run.Step.TheVariants.{GivingPipe, MakingJob, WritingJob, DroppingEnd}
@@ -183,28 +183,29 @@ module _ (worker_set : WorkerSet) (laws : AllLaws worker_set) (m n : State) (e :
         → HasPutOut worker_set n process_slot run made o
     put-on made o h = record { free = free-on h.free; whole = h.whole }
 
-    pub stage-on : (job : ℕ → List ℕ) (w : Wanted) (made : Made) (o : Progress) (s : Step)
+    pub at-step-on : (job : ℕ → List ℕ) (w : Wanted) (made : Made) (o : Progress) (s : Step)
         → ((a : ℕ) → step_agg s a ≡ true → gives_up e server a ≡ false)
         → (is_reading s ≡ true → touches_fd m e server run.from ≡ false)
         → (is_reading s ≡ true → is_stopping (InProgress run s) ≡ false → SamePipe run)
-        → HasStep job m w o run s → Stage worker_set m process_slot run made o s
-        → Stage worker_set n process_slot run made o s
-    stage-on job w made o (GivingPipe write) un undisturbed same has h = ready-on (undisturbed refl) (same refl refl) h
-    stage-on job w made o (MakingJob f) un undisturbed same has h = given-on f (undisturbed refl) (same refl refl) h
-    stage-on job w made o (WritingJob j f) un undisturbed same has h = (
+        → HasStep job m w o run s → IsAtStep worker_set m process_slot run made o s
+        → IsAtStep worker_set n process_slot run made o s
+    at-step-on job w made o (GivingPipe write) un undisturbed same has h =
+        ready-on (undisturbed refl) (same refl refl) h
+    at-step-on job w made o (MakingJob f) un undisturbed same has h = given-on f (undisturbed refl) (same refl refl) h
+    at-step-on job w made o (WritingJob j f) un undisturbed same has h = (
       given-on f (undisturbed refl) (same refl refl) h.0,
       subst (λ (t : Text). lie_in worker_set.jobs t ≡ true)
           (sym (text-stays laws.the.steps m n e r step j (job f) has.1 (un j (self j)))) h.1,
     )
-    stage-on job w made o (DroppingEnd a held frame) un undisturbed same has h = put-on made o h
-    stage-on job w made o (DiscardingHeld held frame) un undisturbed same has h = put-on made o h
-    stage-on job w made o (ClosingOutput held frame) un undisturbed same has h = put-on made o h
-    stage-on job w made o (DroppingFrame frame held) un undisturbed same has h = put-on made o h
-    stage-on job w made o (MakingEnd held) un undisturbed same has h = put-on made o h
-    stage-on job w made o (FillingEnd held size frame) un undisturbed same has h = put-on made o h
-    stage-on job w made o (DroppingLast held chunk len frame) un undisturbed same has h = put-on made o h
-    stage-on job w made o (DroppingLastFrame frame chunk len) un undisturbed same has h = put-on made o h
-    stage-on job w made o (ClosingPipe write) un undisturbed same has h = h
-    stage-on job w made o (DiscardingJob j) un undisturbed same has h = h
-    stage-on job w made o Failing un undisturbed same has h = h
-    stage-on job w made o s un undisturbed same has h = putting-on made o (undisturbed refl) (same refl refl) h
+    at-step-on job w made o (DroppingEnd a held frame) un undisturbed same has h = put-on made o h
+    at-step-on job w made o (DiscardingHeld held frame) un undisturbed same has h = put-on made o h
+    at-step-on job w made o (ClosingOutput held frame) un undisturbed same has h = put-on made o h
+    at-step-on job w made o (DroppingFrame frame held) un undisturbed same has h = put-on made o h
+    at-step-on job w made o (MakingEnd held) un undisturbed same has h = put-on made o h
+    at-step-on job w made o (FillingEnd held size frame) un undisturbed same has h = put-on made o h
+    at-step-on job w made o (DroppingLast held chunk len frame) un undisturbed same has h = put-on made o h
+    at-step-on job w made o (DroppingLastFrame frame chunk len) un undisturbed same has h = put-on made o h
+    at-step-on job w made o (ClosingPipe write) un undisturbed same has h = h
+    at-step-on job w made o (DiscardingJob j) un undisturbed same has h = h
+    at-step-on job w made o Failing un undisturbed same has h = h
+    at-step-on job w made o s un undisturbed same has h = putting-on made o (undisturbed refl) (same refl refl) h

@@ -44,7 +44,7 @@ use Rattle.flash_laws.specs.Site.ClientConsistency.{AreAtJobQueues}
 use Rattle.flash_laws.specs.SiteContents.{SiteContents}
 use Rattle.flash_laws.specs.SiteContents.Expected.{outcomes_by}
 use Rattle.flash_laws.specs.Site.{server}
-use Rattle.flash_laws.specs.Run.Stages.{IsReadyFor, IsGiven, IsPuttingOut}
+use Rattle.flash_laws.specs.Run.WorkerStates.{IsReadyFor, IsGiven, IsPuttingOut}
 use Rattle.flash_laws.specs.declared.script_run.Run.{Run}
 use Rattle.flash_laws.specs.declared.script_run.Step.{Step}
 use Rattle.flash_laws.specs.declared.script_run.Step.TheVariants.{GivingPipe, MakingJob, WritingJob, DroppingJob}
@@ -174,7 +174,7 @@ module _ (site_contents : SiteContents) (worker_set : WorkerSet) (laws : AllLaws
           job_queue = record {
             process_slot = in_slots.0;
             sits = in_slots.1;
-            stage = record {
+            at_step = record {
               free = free_on site_contents worker_set laws m n call.Pipe (reply.Fds from write) process_slots h worker
                   in_slots.0 in_slots.1 stays (hired.1 in_slots.0 in_slots.1);
               has = record {

@@ -15,7 +15,7 @@ use Rattle.flash_laws.specs.Workers.PutsOut.{PutsOut}
 use Rattle.flash_laws.specs.Run.Fits.{Progress}
 use Rattle.flash_laws.specs.Site.ClientConsistency.{AllFit}
 use Rattle.flash_laws.specs.SiteContents.{SiteContents}
-use Rattle.flash_laws.specs.Run.Stages.{IsPuttingOut, Stage}
+use Rattle.flash_laws.specs.Run.WorkerStates.{IsPuttingOut, IsAtStep}
 use Rattle.flash_laws.specs.declared.script_run.Run.{Run}
 use Rattle.flash_laws.specs.declared.script_run.Step.{Step}
 use Rattle.flash_laws.specs.declared.script_run.Step.TheVariants.{MakingJob, WritingJob, DroppingJob, MakingHead}
@@ -47,27 +47,27 @@ module _ (worker_set : WorkerSet) (laws : AllLaws worker_set) where
           expected
       by (inr there) = free-reads m (worker_set.job_queue run.worker) process_slot there.free
 
-  stage-reads : (m : State) (process_slot : ProcessSlot worker_set.Worker) (run : Run) (made : Made) (o : Progress)
-      (s : Step) → Stage worker_set m process_slot run made o s
+  at-step-reads : (m : State) (process_slot : ProcessSlot worker_set.Worker) (run : Run) (made : Made) (o : Progress)
+      (s : Step) → IsAtStep worker_set m process_slot run made o s
       → descriptor m process_slot.by 0 ≡ Some (on.ReadEnd (worker_set.job_queue run.worker))
-  stage-reads m process_slot run made o (MakingJob f) h =
+  at-step-reads m process_slot run made o (MakingJob f) h =
       free-reads m (worker_set.job_queue run.worker) process_slot h.ready.free
-  stage-reads m process_slot run made o (WritingJob j f) h =
+  at-step-reads m process_slot run made o (WritingJob j f) h =
       free-reads m (worker_set.job_queue run.worker) process_slot h.0.ready.free
-  stage-reads m process_slot run made o (DroppingJob j) h = puts-reads m process_slot run made o h
-  stage-reads m process_slot run made o MakingHead h = puts-reads m process_slot run made o h
-  stage-reads m process_slot run made o (SendingPart d frame) h = puts-reads m process_slot run made o h
-  stage-reads m process_slot run made o (ReadingOutput held frame) h = puts-reads m process_slot run made o h
-  stage-reads m process_slot run made o (DroppingOutput a frame) h = puts-reads m process_slot run made o h
-  stage-reads m process_slot run made o (JoiningOutput held size piece len frame) h =
+  at-step-reads m process_slot run made o (DroppingJob j) h = puts-reads m process_slot run made o h
+  at-step-reads m process_slot run made o MakingHead h = puts-reads m process_slot run made o h
+  at-step-reads m process_slot run made o (SendingPart d frame) h = puts-reads m process_slot run made o h
+  at-step-reads m process_slot run made o (ReadingOutput held frame) h = puts-reads m process_slot run made o h
+  at-step-reads m process_slot run made o (DroppingOutput a frame) h = puts-reads m process_slot run made o h
+  at-step-reads m process_slot run made o (JoiningOutput held size piece len frame) h =
       puts-reads m process_slot run made o h
-  stage-reads m process_slot run made o (MakingFrame held) h = puts-reads m process_slot run made o h
-  stage-reads m process_slot run made o (FillingFrame held frame) h = puts-reads m process_slot run made o h
-  stage-reads m process_slot run made o (DroppingHeld held chunk len frame) h = puts-reads m process_slot run made o h
-  stage-reads m process_slot run made o (ClosingPipe write) h = absurd h
-  stage-reads m process_slot run made o (DiscardingJob j) h = absurd h
-  stage-reads m process_slot run made o Failing h = absurd h
-  stage-reads m process_slot run made o s h = free-reads m (worker_set.job_queue run.worker) process_slot h.free
+  at-step-reads m process_slot run made o (MakingFrame held) h = puts-reads m process_slot run made o h
+  at-step-reads m process_slot run made o (FillingFrame held frame) h = puts-reads m process_slot run made o h
+  at-step-reads m process_slot run made o (DroppingHeld held chunk len frame) h = puts-reads m process_slot run made o h
+  at-step-reads m process_slot run made o (ClosingPipe write) h = absurd h
+  at-step-reads m process_slot run made o (DiscardingJob j) h = absurd h
+  at-step-reads m process_slot run made o Failing h = absurd h
+  at-step-reads m process_slot run made o s h = free-reads m (worker_set.job_queue run.worker) process_slot h.free
 
 module _ (site_contents : SiteContents) (worker_set : WorkerSet) (laws : AllLaws worker_set) where
   -- the worker of a client reads its jobs
@@ -85,7 +85,7 @@ module _ (site_contents : SiteContents) (worker_set : WorkerSet) (laws : AllLaws
       subst (λ k. descriptor m process_slot.by 0 ≡ Some (on.ReadEnd (worker_set.job_queue k))) here
       (subst (λ (t : ProcessSlot worker_set.Worker). descriptor m t.by 0
       ≡ Some (on.ReadEnd (worker_set.job_queue run.worker))) mine
-      (stage-reads worker_set laws m f.job_queue.process_slot run _ f.so_far s f.job_queue.stage))
+      (at-step-reads worker_set laws m f.job_queue.process_slot run _ f.so_far s f.job_queue.at_step))
   run-reads m came sent fd c x run script process_slots j process_slot runs f sits = absurd (cc (runs))
 
   pub reads-jobs : (m : State) (p : Past) (clients : List (Option Client))

@@ -22,7 +22,7 @@ use Rattle.flash_laws.specs.Site.ClientConsistency.{AreAtJobQueues}
 use Rattle.flash_laws.specs.SiteContents.{SiteContents}
 use Rattle.flash_laws.specs.SiteContents.Expected.{outcomes_by}
 use Rattle.flash_laws.specs.Site.{server}
-use Rattle.flash_laws.specs.Run.Stages.{HasWorkerAt, AtJobQueue, is_starting, IsPuttingOut, HasPutOut, IsToCome}
+use Rattle.flash_laws.specs.Run.WorkerStates.{HasWorkerAt, AtJobQueue, is_starting, IsPuttingOut, HasPutOut, IsToCome}
 use Rattle.flash_laws.specs.declared.script_run.Run.{Run}
 use Rattle.flash_laws.specs.declared.script_run.Step.{Step}
 use Rattle.flash_laws.specs.declared.script_run.Step.TheVariants.{GivingPipe, MakingJob, WritingJob, SendingPart}
@@ -39,9 +39,10 @@ use Rattle.flash_laws.proofs.Run.Parts.{no-position}
 use Rattle.flash_laws.proofs.World.AllLaws.{AllLaws}
 pub use Rattle.flash_laws.proofs.World.JobQueue.After.{JobQueueAfter}
 use Rattle.flash_laws.proofs.World.JobQueue.After.{CutBy}
-use Rattle.flash_laws.proofs.World.JobQueue.Calls.{Quiet, Still, OwnCall, own_call, still, putting_on, put_on}
+use Rattle.flash_laws.proofs.World.JobQueue.Calls.{TouchesNoPipe, Still, OwnCall, own_call, still, putting_on, put_on}
 use Rattle.flash_laws.proofs.World.JobQueue.Fresh.{awaits, gives, makes, hands, not_lost}
-use Rattle.flash_laws.proofs.World.JobQueue.Reads.{ReceivesNothing, part_to_come, quiet_part, not_cut, quiet_steps}
+use Rattle.flash_laws.proofs.World.JobQueue.Reads.{ReceivesNothing, part_to_come, part_touches_none, not_cut}
+use Rattle.flash_laws.proofs.World.JobQueue.Reads.{steps_without_output}
 use Rattle.flash_laws.proofs.World.JobQueue.Reads.{sending, receives}
 use Rattle.flash_laws.proofs.World.JobQueue.Stops.{HasReceivedAll, apart_read, apart_write, shut_stays, last_steps}
 use Rattle.flash_laws.proofs.World.JobQueue.Stops.{leaving}
@@ -84,29 +85,31 @@ module _ (site_contents : SiteContents) (worker_set : WorkerSet) (laws : AllLaws
           ((laws.runs job).breaks m n fd c worker w (InProgress run step) r received o open_on refl has did on gone)
 
       -- the steps that touch no pipe
-      undisturbed : (step : Step) → Quiet fd (step_call job fd w run step) → Done (InProgress run step) → Still m n
-      undisturbed step quiet did =
-          still m fd c open_on n (step_call job fd w run step) (left (InProgress run step) did) quiet
+      undisturbed : (step : Step) → TouchesNoPipe fd (step_call job fd w run step) → Done (InProgress run step)
+          → Still m n
+      undisturbed step touches_none did =
+          still m fd c open_on n (step_call job fd w run step) (left (InProgress run step) did) touches_none
 
       putting : (step : Step) (process_slot : ProcessSlot worker_set.Worker)
-          → slice_get process_slots run.worker ≡ Some process_slot → Quiet fd (step_call job fd w run step)
+          → slice_get process_slots run.worker ≡ Some process_slot → TouchesNoPipe fd (step_call job fd w run step)
           → HasRun job m w o (InProgress run step)
           → Done (InProgress run step) → (was : IsPuttingOut worker_set m process_slot run made o)
           → IsToCome after (text_of made) was.more → IsPuttingOut worker_set n process_slot run made after
-      putting step process_slot sits quiet has did was come =
+      putting step process_slot sits touches_none has did was come =
           putting_on site_contents worker_set laws m n (step_call job fd w run step) r process_slots
-          (own (InProgress run step) refl has did) run process_slot sits (undisturbed step quiet did) made o after was
+          (own (InProgress run step) refl has did) run process_slot sits (undisturbed step touches_none did) made o
+          after was
           come
 
       reading_on : (step : Step) (process_slot : ProcessSlot worker_set.Worker)
           → slice_get process_slots run.worker ≡ Some process_slot → ReceivesNothing step
-          → Quiet fd (step_call job fd w run step)
+          → TouchesNoPipe fd (step_call job fd w run step)
           → HasRun job m w o (InProgress run step) → Done (InProgress run step)
           → IsPuttingOut worker_set m process_slot run made o
           → after ≡ o → After (InProgress run step)
-      reading_on step process_slot sits nothing quiet has did was same =
-          quiet_steps site_contents worker_set laws m n c process_slots w o after made run process_slot sits
-          (putting step process_slot sits quiet has did was
+      reading_on step process_slot sits nothing touches_none has did was same =
+          steps_without_output site_contents worker_set laws m n c process_slots w o after made run process_slot sits
+          (putting step process_slot sits touches_none has did was
           (subst (λ (p : Progress). IsToCome p (text_of made) was.more) (sym same) was.to_come)) same step r
           received nothing (cut_off step process_slot has did was)
 
@@ -123,13 +126,13 @@ module _ (site_contents : SiteContents) (worker_set : WorkerSet) (laws : AllLaws
 
       ending_undisturbed : (step : Step) (process_slot : ProcessSlot worker_set.Worker)
           → slice_get process_slots run.worker ≡ Some process_slot → HasReceivedAll step
-          → Quiet fd (step_call job fd w run step)
+          → TouchesNoPipe fd (step_call job fd w run step)
           → HasRun job m w o (InProgress run step) → Done (InProgress run step)
           → HasPutOut worker_set m process_slot run made o
           → after ≡ o → After (InProgress run step)
-      ending_undisturbed step process_slot sits all quiet has did was same =
+      ending_undisturbed step process_slot sits all touches_none has did was same =
           ending step process_slot sits all has did
-          ((undisturbed step quiet did).pipes (worker_set.job_queue run.worker)) was same
+          ((undisturbed step touches_none did).pipes (worker_set.job_queue run.worker)) was same
 
       -- a run with a free worker does not begin to fail
       buffered : (step : Step) (process_slot : ProcessSlot worker_set.Worker)
@@ -149,18 +152,18 @@ module _ (site_contents : SiteContents) (worker_set : WorkerSet) (laws : AllLaws
           → After (InProgress run step)
       running (GivingPipe write) fresh has job_queue did learns =
           gives site_contents worker_set laws m n c process_slots w o after made run write r job_queue.process_slot
-          job_queue.sits job_queue.stage has.1.0 (own (InProgress run (GivingPipe write)) refl has did)
-          (buffered (GivingPipe write) job_queue.process_slot job_queue.sits refl has did job_queue.stage.free) learns
+          job_queue.sits job_queue.at_step has.1.0 (own (InProgress run (GivingPipe write)) refl has did)
+          (buffered (GivingPipe write) job_queue.process_slot job_queue.sits refl has did job_queue.at_step.free) learns
       running (MakingJob f) fresh has job_queue did learns =
           makes site_contents worker_set laws m n c process_slots w o after made (job f) run f r job_queue.process_slot
-          job_queue.sits job_queue.stage (own (InProgress run (MakingJob f)) refl has did)
+          job_queue.sits job_queue.at_step (own (InProgress run (MakingJob f)) refl has did)
           (undisturbed (MakingJob f) tt did)
           learns
       running (WritingJob j f) fresh has job_queue did learns =
           hands site_contents worker_set laws m n c process_slots w o after x s shown (fresh refl) run f j
-          job_queue.process_slot job_queue.sits job_queue.stage.0 job_queue.stage.1 has.1.1 r
+          job_queue.process_slot job_queue.sits job_queue.at_step.0 job_queue.at_step.1 has.1.1 r
           (own (InProgress run (WritingJob j f)) refl has did) stays from
-          (buffered (WritingJob j f) job_queue.process_slot job_queue.sits refl has did job_queue.stage.0.ready.free)
+          (buffered (WritingJob j f) job_queue.process_slot job_queue.sits refl has did job_queue.at_step.0.ready.free)
           has.1.2.1
           learns
         where
@@ -173,72 +176,75 @@ module _ (site_contents : SiteContents) (worker_set : WorkerSet) (laws : AllLaws
               (apart_write (descriptor m server (job_pipe run.worker)) (worker_set.job_queue run.worker) p writes
               (λ e. differ (sym e)))
 
-          from : descriptor n server run.from ≡ Some (on.ReadEnd job_queue.stage.0.ready.has.pipe)
+          from : descriptor n server run.from ≡ Some (on.ReadEnd job_queue.at_step.0.ready.has.pipe)
           from =
               (left (InProgress run (WritingJob j f)) did).fds server run.from
-              (on.ReadEnd job_queue.stage.0.ready.has.pipe)
-              job_queue.stage.0.ready.has.reads
+              (on.ReadEnd job_queue.at_step.0.ready.has.pipe)
+              job_queue.at_step.0.ready.has.reads
               (no-position m (job_pipe run.worker) run.from (on.WriteEnd (worker_set.job_queue run.worker)) writes refl)
       running (SendingPart d frame) fresh has job_queue did learns =
           sending site_contents worker_set laws m n c process_slots w o after made run job_queue.process_slot
           job_queue.sits
           (putting (SendingPart d frame) job_queue.process_slot job_queue.sits
-          (quiet_part m fd w has.1.part d (part-sends m has.1.part d has.1.is_part has.1.within)) has did
-          job_queue.stage
-          (part_to_come m d r o after (text_of made) job_queue.stage.more learns job_queue.stage.to_come)) d frame r
-          learns (cut_off (SendingPart d frame) job_queue.process_slot has did job_queue.stage)
+          (part_touches_none m fd w has.1.part d (part-sends m has.1.part d has.1.is_part has.1.within)) has did
+          job_queue.at_step
+          (part_to_come m d r o after (text_of made) job_queue.at_step.more learns job_queue.at_step.to_come)) d frame r
+          learns (cut_off (SendingPart d frame) job_queue.process_slot has did job_queue.at_step)
       running (ReadingOutput held frame) fresh has job_queue did learns =
           receives site_contents worker_set laws m n c process_slots w o after made run held frame
-          job_queue.process_slot job_queue.sits job_queue.stage ((laws.runs job).reads m w o run held frame has) r
+          job_queue.process_slot job_queue.sits job_queue.at_step ((laws.runs job).reads m w o run held frame has) r
           received
           (own (InProgress run (ReadingOutput held frame)) refl has did) names learns stays from
-          (cut_off (ReadingOutput held frame) job_queue.process_slot has did job_queue.stage)
+          (cut_off (ReadingOutput held frame) job_queue.process_slot has did job_queue.at_step)
         where
           stays : pipe_at n (worker_set.job_queue run.worker) ≡ pipe_at m (worker_set.job_queue run.worker)
           stays = (left (InProgress run (ReadingOutput held frame)) did).pipes (worker_set.job_queue run.worker)
-              (apart_read (descriptor m server run.from) job_queue.stage.has.pipe (worker_set.job_queue run.worker)
-              job_queue.stage.has.reads
-              (λ e. job_queue.stage.has.apart run.worker
+              (apart_read (descriptor m server run.from) job_queue.at_step.has.pipe (worker_set.job_queue run.worker)
+              job_queue.at_step.has.reads
+              (λ e. job_queue.at_step.has.apart run.worker
               (job_queues.by run.worker job_queue.process_slot job_queue.sits).0 (sym e)))
 
-          from : descriptor n server run.from ≡ Some (on.ReadEnd job_queue.stage.has.pipe)
+          from : descriptor n server run.from ≡ Some (on.ReadEnd job_queue.at_step.has.pipe)
           from =
               (left (InProgress run (ReadingOutput held frame)) did).fds server run.from
-              (on.ReadEnd job_queue.stage.has.pipe)
-              job_queue.stage.has.reads
-              (no-position m run.from run.from (on.ReadEnd job_queue.stage.has.pipe) job_queue.stage.has.reads refl)
+              (on.ReadEnd job_queue.at_step.has.pipe)
+              job_queue.at_step.has.reads
+              (no-position m run.from run.from (on.ReadEnd job_queue.at_step.has.pipe) job_queue.at_step.has.reads refl)
       running (DroppingEnd a held frame) fresh has job_queue did learns =
           ending_undisturbed (DroppingEnd a held frame) job_queue.process_slot job_queue.sits tt tt has did
-          job_queue.stage
+          job_queue.at_step
           learns
       running (DiscardingHeld held frame) fresh has job_queue did learns =
           ending_undisturbed (DiscardingHeld held frame) job_queue.process_slot job_queue.sits tt tt has did
-          job_queue.stage
+          job_queue.at_step
           learns
       running (ClosingOutput held frame) fresh has job_queue did learns =
           ending (ClosingOutput held frame) job_queue.process_slot job_queue.sits tt has did
           (shut_stays site_contents worker_set laws m n c process_slots w o after run has.1.0.0 r job_queue.process_slot
-          job_queue.sits (own (InProgress run (ClosingOutput held frame)) refl has did) has.1.0.1 job_queue.stage.free)
-          job_queue.stage learns
+          job_queue.sits (own (InProgress run (ClosingOutput held frame)) refl has did) has.1.0.1
+          job_queue.at_step.free)
+          job_queue.at_step learns
       running (DroppingFrame f held) fresh has job_queue did learns =
-          ending_undisturbed (DroppingFrame f held) job_queue.process_slot job_queue.sits tt tt has did job_queue.stage
+          ending_undisturbed (DroppingFrame f held) job_queue.process_slot job_queue.sits tt tt has did
+          job_queue.at_step
           learns
       running (MakingEnd held) fresh has job_queue did learns =
-          ending_undisturbed (MakingEnd held) job_queue.process_slot job_queue.sits tt tt has did job_queue.stage learns
+          ending_undisturbed (MakingEnd held) job_queue.process_slot job_queue.sits tt tt has did job_queue.at_step
+          learns
       running (FillingEnd held size frame) fresh has job_queue did learns =
           ending_undisturbed (FillingEnd held size frame) job_queue.process_slot job_queue.sits tt tt has did
-          job_queue.stage learns
+          job_queue.at_step learns
       running (DroppingLast held chunk len frame) fresh has job_queue did learns =
           ending_undisturbed (DroppingLast held chunk len frame) job_queue.process_slot job_queue.sits tt tt has did
-          job_queue.stage learns
+          job_queue.at_step learns
       running (DroppingLastFrame frame chunk len) fresh has job_queue did learns =
           ending_undisturbed (DroppingLastFrame frame chunk len) job_queue.process_slot job_queue.sits tt tt has did
-          job_queue.stage learns
-      running (ClosingPipe write) fresh has job_queue did learns = absurd job_queue.stage
-      running (DiscardingJob j) fresh has job_queue did learns = absurd job_queue.stage
-      running Failing fresh has job_queue did learns = absurd job_queue.stage
+          job_queue.at_step learns
+      running (ClosingPipe write) fresh has job_queue did learns = absurd job_queue.at_step
+      running (DiscardingJob j) fresh has job_queue did learns = absurd job_queue.at_step
+      running Failing fresh has job_queue did learns = absurd job_queue.at_step
       running step fresh has job_queue did learns =
-          reading_on step job_queue.process_slot job_queue.sits tt tt has did job_queue.stage learns
+          reading_on step job_queue.process_slot job_queue.sits tt tt has did job_queue.at_step learns
 
     by_step : (y : Running) → is_over y ≡ false
         → (is_starting y ≡ true → shown ≡ outcomes_by site_contents.shows s.lines) → HasRun job m w o y

@@ -31,7 +31,7 @@ use Rattle.flash_laws.specs.Run.{in_phase, held_size, broken, both, after_part, 
 use Rattle.flash_laws.specs.Run.{filled, holding, hearing, sends_part}
 use Rattle.flash_laws.specs.SiteContents.{SiteContents}
 use Rattle.flash_laws.specs.Site.{server}
-use Rattle.flash_laws.specs.Run.Stages.{IsPuttingOut, IsToCome, IsReceivedWhole, Stage}
+use Rattle.flash_laws.specs.Run.WorkerStates.{IsPuttingOut, IsToCome, IsReceivedWhole, IsAtStep}
 use Rattle.flash_laws.specs.declared.phase.Payload.TheVariants.{Error}
 use Rattle.flash_laws.specs.declared.phase.Phase.{Phase}
 use Rattle.flash_laws.specs.declared.phase.Phase.TheVariants as phase
@@ -46,7 +46,7 @@ use Rattle.flash_laws.specs.declared.script_run.Running.TheVariants.{InProgress}
 use Rattle.flash_laws.proofs.Lists.{clash}
 use Rattle.flash_laws.proofs.World.AllLaws.{AllLaws}
 use Rattle.flash_laws.proofs.World.JobQueue.After.{JobQueueAfter, MayOn, CutBy, may_same, cut_same, proceeds, same_on}
-use Rattle.flash_laws.proofs.World.JobQueue.Calls.{Quiet, OwnCall, own_files, other}
+use Rattle.flash_laws.proofs.World.JobQueue.Calls.{TouchesNoPipe, OwnCall, own_files, other}
 
 -- ---- a part of the response is taken: the unseen output and the possible responses are unchanged
 
@@ -76,17 +76,17 @@ part_to_come m (phase.Aborting a None) reply.Done o after output more learns com
 part_to_come m d r o after output more learns come = subst (λ (p : Progress). IsToCome p output more) (sym learns) come
 
 -- the calls that send it touch no pipe
-pub quiet_part : (m : State) (fd : ℕ) (w : Wanted) (expected : List ℕ) (d : Phase) → IsSending m expected d
-    → Quiet fd (conn.next_call fd (in_phase w d))
-quiet_part m fd w expected (phase.MakingHead (Error status)) is = tt
-quiet_part m fd w expected (phase.SendingWhole s) is = refl
-quiet_part m fd w expected (phase.CuttingPiece s) is = tt
-quiet_part m fd w expected (phase.SendingPiece s piece) is = refl
-quiet_part m fd w expected (phase.DroppingPiece s piece) is = tt
-quiet_part m fd w expected (phase.DroppingSent a taken None) is = tt
-quiet_part m fd w expected (phase.AbortingPiece piece a None) is = tt
-quiet_part m fd w expected (phase.Aborting a None) is = tt
-quiet_part m fd w expected d is = absurd is.0
+pub part_touches_none : (m : State) (fd : ℕ) (w : Wanted) (expected : List ℕ) (d : Phase) → IsSending m expected d
+    → TouchesNoPipe fd (conn.next_call fd (in_phase w d))
+part_touches_none m fd w expected (phase.MakingHead (Error status)) is = tt
+part_touches_none m fd w expected (phase.SendingWhole s) is = refl
+part_touches_none m fd w expected (phase.CuttingPiece s) is = tt
+part_touches_none m fd w expected (phase.SendingPiece s piece) is = refl
+part_touches_none m fd w expected (phase.DroppingPiece s piece) is = tt
+part_touches_none m fd w expected (phase.DroppingSent a taken None) is = tt
+part_touches_none m fd w expected (phase.AbortingPiece piece a None) is = tt
+part_touches_none m fd w expected (phase.Aborting a None) is = tt
+part_touches_none m fd w expected d is = absurd is.0
 
 -- the steps between the reads
 abbrev pub ReceivesNothing : Step → Type 0
@@ -239,40 +239,42 @@ module _ (site_contents : SiteContents) (worker_set : WorkerSet) (laws : AllLaws
 
       module _ (same : after ≡ o) where
         to : (step later : Step) → CutBy m c (InProgress run step) (InProgress run later)
-            → Stage worker_set n process_slot run made after later → After (InProgress run step) (InProgress run later)
-        to step later cut stage = same_on worker_set m n c process_slots w made o after run step later process_slot sits
-            same cut stage
+            → IsAtStep worker_set n process_slot run made after later
+            → After (InProgress run step) (InProgress run later)
+        to step later cut at_step =
+            same_on worker_set m n c process_slots w made o after run step later process_slot sits
+            same cut at_step
 
-        pub quiet_steps : (step : Step) (r : Reply) (received : List ℕ) → ReceivesNothing step
+        pub steps_without_output : (step : Step) (r : Reply) (received : List ℕ) → ReceivesNothing step
             → CutBy m c (InProgress run step) (after_step w run step r received)
             → After (InProgress run step) (after_step w run step r received)
-        quiet_steps (DroppingJob j) reply.Done received is cut = to (DroppingJob j) MakingHead cut now
-        quiet_steps (DroppingJob j) r received is cut = to (DroppingJob j) (DroppingJob j) cut now
-        quiet_steps MakingHead (reply.Agg a) received is cut =
+        steps_without_output (DroppingJob j) reply.Done received is cut = to (DroppingJob j) MakingHead cut now
+        steps_without_output (DroppingJob j) r received is cut = to (DroppingJob j) (DroppingJob j) cut now
+        steps_without_output MakingHead (reply.Agg a) received is cut =
             to MakingHead (SendingPart (sends_part a (count_of received)) None) cut now
-        quiet_steps MakingHead r received is cut = to MakingHead MakingHead cut now
-        quiet_steps (DroppingOutput a frame) reply.Done received is cut =
+        steps_without_output MakingHead r received is cut = to MakingHead MakingHead cut now
+        steps_without_output (DroppingOutput a frame) reply.Done received is cut =
             to (DroppingOutput a frame) (ReadingOutput None frame) cut now
-        quiet_steps (DroppingOutput a frame) r received is cut =
+        steps_without_output (DroppingOutput a frame) r received is cut =
             to (DroppingOutput a frame) (DroppingOutput a frame) cut now
-        quiet_steps (JoiningOutput held size piece len frame) (reply.Agg a) received is cut =
+        steps_without_output (JoiningOutput held size piece len frame) (reply.Agg a) received is cut =
             held_on (JoiningOutput held size piece len frame) a (both size len) frame
             (λ z. may_same (response_to w made) w (InProgress run (JoiningOutput held size piece len frame)) z o after
             same) cut
-        quiet_steps (JoiningOutput held size piece len frame) r received is cut =
+        steps_without_output (JoiningOutput held size piece len frame) r received is cut =
             to (JoiningOutput held size piece len frame) (JoiningOutput held size piece len frame) cut now
-        quiet_steps (MakingFrame held) (reply.Agg a) received is cut =
+        steps_without_output (MakingFrame held) (reply.Agg a) received is cut =
             to (MakingFrame held) (FillingFrame held a) cut now
-        quiet_steps (MakingFrame held) r received is cut = to (MakingFrame held) (MakingFrame held) cut now
-        quiet_steps (FillingFrame held frame) (reply.Agg a) received is cut =
+        steps_without_output (MakingFrame held) r received is cut = to (MakingFrame held) (MakingFrame held) cut now
+        steps_without_output (FillingFrame held frame) (reply.Agg a) received is cut =
             to (FillingFrame held frame) (DroppingHeld held a (count_of received) frame) cut now
-        quiet_steps (FillingFrame held frame) r received is cut =
+        steps_without_output (FillingFrame held frame) r received is cut =
             to (FillingFrame held frame) (FillingFrame held frame) cut now
-        quiet_steps (DroppingHeld held chunk len frame) reply.Done received is cut =
+        steps_without_output (DroppingHeld held chunk len frame) reply.Done received is cut =
             to (DroppingHeld held chunk len frame) (SendingPart (sends_part chunk len) (Some frame)) cut now
-        quiet_steps (DroppingHeld held chunk len frame) r received is cut =
+        steps_without_output (DroppingHeld held chunk len frame) r received is cut =
             to (DroppingHeld held chunk len frame) (DroppingHeld held chunk len frame) cut now
-        quiet_steps step r received is cut = absurd is
+        steps_without_output step r received is cut = absurd is
 
       -- a part is sent
       pub sending : (d : Phase) (frame : Option ℕ) (r : Reply) → PartLearns m d r o after

@@ -22,7 +22,7 @@ use Rattle.flash_laws.specs.Run.OfferedBytes.{PartLearns, breaks_off}
 use Rattle.flash_laws.specs.Run.{in_phase, after_step, finishing, ending, sends_part}
 use Rattle.flash_laws.specs.SiteContents.{SiteContents}
 use Rattle.flash_laws.specs.Site.{server}
-use Rattle.flash_laws.specs.Run.Stages.{HasWorkerAt, HasPutOut, Stage}
+use Rattle.flash_laws.specs.Run.WorkerStates.{HasWorkerAt, HasPutOut, IsAtStep}
 use Rattle.flash_laws.specs.declared.phase.Phase.{Phase}
 use Rattle.flash_laws.specs.declared.phase.Phase.TheVariants as phase
 use Rattle.flash_laws.specs.declared.script_run.Run.{Run}
@@ -98,9 +98,9 @@ module _ (site_contents : SiteContents) (worker_set : WorkerSet) (laws : AllLaws
         (sits : slice_get process_slots run.worker ≡ Some process_slot)
         (now : HasPutOut worker_set n process_slot run made after) (same : after ≡ o) where
       to : (step later : Step) → CutBy m c (InProgress run step) (InProgress run later)
-          → Stage worker_set n process_slot run made after later → After (InProgress run step) (InProgress run later)
-      to step later cut stage = same_on worker_set m n c process_slots w made o after run step later process_slot sits
-          same cut stage
+          → IsAtStep worker_set n process_slot run made after later → After (InProgress run step) (InProgress run later)
+      to step later cut at_step = same_on worker_set m n c process_slots w made o after run step later process_slot sits
+          same cut at_step
 
       freed : (k : ℕ) (next : ProcessSlot worker_set.Worker) → slice_get process_slots k ≡ Some next
           → (run.worker == k) ≡ true → worker_set.Free n (worker_set.job_queue k) next
@@ -141,9 +141,9 @@ module _ (site_contents : SiteContents) (worker_set : WorkerSet) (laws : AllLaws
           (cut_same m c (InProgress run (MakingEnd (Some y))) (InProgress run (FillingEnd y.0 y.1 a)) refl) now
 
       on_to : (step later : Step) → breaks_off (InProgress run later) ≡ breaks_off (InProgress run step)
-          → Stage worker_set n process_slot run made after later → After (InProgress run step) (InProgress run later)
-      on_to step later whole stage =
-          to step later (cut_same m c (InProgress run step) (InProgress run later) whole) stage
+          → IsAtStep worker_set n process_slot run made after later → After (InProgress run step) (InProgress run later)
+      on_to step later whole at_step =
+          to step later (cut_same m c (InProgress run step) (InProgress run later) whole) at_step
 
       pub last_steps : (step : Step) (r : Reply) (received : List ℕ) → HasReceivedAll step
           → After (InProgress run step) (after_step w run step r received)

@@ -34,8 +34,9 @@ use Rattle.flash_laws.specs.Site.ClientConsistency.{FitsAt}
 use Rattle.flash_laws.specs.SiteContents.{SiteContents, AllMayShow, IsAmong}
 use Rattle.flash_laws.specs.SiteContents.Expected.{outcomes_by}
 use Rattle.flash_laws.specs.Site.{server}
-use Rattle.flash_laws.specs.Run.Stages.{HasPipeOf, IsReadyFor, IsGiven, IsPuttingOut, HasPutOut, IsToCome, Stage}
-use Rattle.flash_laws.specs.Run.Stages.{is_starting}
+use Rattle.flash_laws.specs.Run.WorkerStates.{HasPipeOf, IsReadyFor, IsGiven, IsPuttingOut, HasPutOut, IsToCome}
+use Rattle.flash_laws.specs.Run.WorkerStates.{IsAtStep}
+use Rattle.flash_laws.specs.Run.WorkerStates.{is_starting}
 use Rattle.flash_laws.specs.declared.script_run.Run.{Run}
 use Rattle.flash_laws.specs.declared.script_run.Step.{Step}
 use Rattle.flash_laws.specs.declared.script_run.Step.TheVariants.{GivingPipe, MakingJob, WritingJob, DroppingJob}
@@ -118,7 +119,8 @@ module _ (site_contents : SiteContents) (worker_set : WorkerSet) (laws : AllLaws
               → Touches worker_set m n clients k process_slot.by
           by (inr there) = rests (worker_set.job_queue run.worker) there.free
           by (inl expected) =
-              elim (laws.workers.quiet m n (worker_set.job_queue run.worker) h.has.pipe process_slot next yields r made
+              elim (laws.workers.confined m n (worker_set.job_queue run.worker) h.has.pipe process_slot next yields r
+              made
               h.more expected turn.did) [
                 | inl left ↦
                     record {
@@ -144,33 +146,33 @@ module _ (site_contents : SiteContents) (worker_set : WorkerSet) (laws : AllLaws
         by true false c u v = absurd (cc (v))
         by false b c u v = absurd (cc (u))
 
-    stage-touches : (s : Step) → in_place clients fd ≡ Some (of x (Some (InProgress run s)) script)
+    at-step-touches : (s : Step) → in_place clients fd ≡ Some (of x (Some (InProgress run s)) script)
         → (run.worker == k) ≡ true
-        → Stage worker_set m process_slot run made o s
+        → IsAtStep worker_set m process_slot run made o s
         → Touches worker_set m n clients k process_slot.by
-    stage-touches (MakingJob f) at runs h = rests (worker_set.job_queue run.worker) h.ready.free
-    stage-touches (WritingJob j f) at runs h = rests (worker_set.job_queue run.worker) h.0.ready.free
-    stage-touches (DroppingJob j) at runs h = putting-touches (DroppingJob j) at runs (used (DroppingJob j) refl) h
-    stage-touches MakingHead at runs h = putting-touches MakingHead at runs (used MakingHead refl) h
-    stage-touches (SendingPart d frame) at runs h =
+    at-step-touches (MakingJob f) at runs h = rests (worker_set.job_queue run.worker) h.ready.free
+    at-step-touches (WritingJob j f) at runs h = rests (worker_set.job_queue run.worker) h.0.ready.free
+    at-step-touches (DroppingJob j) at runs h = putting-touches (DroppingJob j) at runs (used (DroppingJob j) refl) h
+    at-step-touches MakingHead at runs h = putting-touches MakingHead at runs (used MakingHead refl) h
+    at-step-touches (SendingPart d frame) at runs h =
         putting-touches (SendingPart d frame) at runs (used (SendingPart d frame) refl) h
-    stage-touches (ReadingOutput held frame) at runs h =
+    at-step-touches (ReadingOutput held frame) at runs h =
         putting-touches (ReadingOutput held frame) at runs (used (ReadingOutput held frame) refl) h
-    stage-touches (DroppingOutput a frame) at runs h =
+    at-step-touches (DroppingOutput a frame) at runs h =
         putting-touches (DroppingOutput a frame) at runs (used (DroppingOutput a frame) refl) h
-    stage-touches (JoiningOutput held size piece len frame) at runs h =
+    at-step-touches (JoiningOutput held size piece len frame) at runs h =
         putting-touches (JoiningOutput held size piece len frame) at runs
         (used (JoiningOutput held size piece len frame) refl) h
-    stage-touches (MakingFrame held) at runs h =
+    at-step-touches (MakingFrame held) at runs h =
         putting-touches (MakingFrame held) at runs (used (MakingFrame held) refl) h
-    stage-touches (FillingFrame held frame) at runs h =
+    at-step-touches (FillingFrame held frame) at runs h =
         putting-touches (FillingFrame held frame) at runs (used (FillingFrame held frame) refl) h
-    stage-touches (DroppingHeld held chunk len frame) at runs h =
+    at-step-touches (DroppingHeld held chunk len frame) at runs h =
         putting-touches (DroppingHeld held chunk len frame) at runs (used (DroppingHeld held chunk len frame) refl) h
-    stage-touches (ClosingPipe write) at runs h = absurd h
-    stage-touches (DiscardingJob j) at runs h = absurd h
-    stage-touches Failing at runs h = absurd h
-    stage-touches s at runs h = rests (worker_set.job_queue run.worker) h.free
+    at-step-touches (ClosingPipe write) at runs h = absurd h
+    at-step-touches (DiscardingJob j) at runs h = absurd h
+    at-step-touches Failing at runs h = absurd h
+    at-step-touches s at runs h = rests (worker_set.job_queue run.worker) h.free
 
   -- the process slot of the worker of a run, if this is worker k
   at-job_queue : (run : Run) (there : ProcessSlot worker_set.Worker) → (run.worker == k) ≡ true
@@ -184,11 +186,11 @@ module _ (site_contents : SiteContents) (worker_set : WorkerSet) (laws : AllLaws
       → FitsAt site_contents worker_set m p fd (of x run script) process_slots
       → Touches worker_set m n clients k process_slot.by
   client-touches fd x (Some (InProgress run s)) script at runs f =
-      stage-touches fd x script run (made_of f.fits.wanted f.fits.script.lines f.fits.shown) f.fits.so_far s at runs
+      at-step-touches fd x script run (made_of f.fits.wanted f.fits.script.lines f.fits.shown) f.fits.so_far s at runs
       (subst
-      (λ (t : ProcessSlot worker_set.Worker). Stage worker_set m t run
+      (λ (t : ProcessSlot worker_set.Worker). IsAtStep worker_set m t run
       (made_of f.fits.wanted f.fits.script.lines f.fits.shown) f.fits.so_far s)
-      (at-job_queue run f.fits.job_queue.process_slot runs f.fits.job_queue.sits) f.fits.job_queue.stage)
+      (at-job_queue run f.fits.job_queue.process_slot runs f.fits.job_queue.sits) f.fits.job_queue.at_step)
   client-touches fd x run script at runs f = absurd (cc (runs))
 
   -- ---- its objects after the turn
@@ -243,15 +245,15 @@ module _ (site_contents : SiteContents) (worker_set : WorkerSet) (laws : AllLaws
             (InProgress run s)
             → ConsistencyRun site_contents (response_to w (made_of w lines shown_now)) k took sent buffered w o
             (InProgress run s)
-        pub stage : Stage worker_set n next run (made_of w lines shown_now) o s
+        pub at_step : IsAtStep worker_set n next run (made_of w lines shown_now) o s
 
-      unchanged : (s : Step) → Stage worker_set n next run (made_of w lines shown) o s → Turned s
-      unchanged s stage = record {
+      unchanged : (s : Step) → IsAtStep worker_set n next run (made_of w lines shown) o s → Turned s
+      unchanged s at_step = record {
         shown_now = shown;
         may_show = λ there all. all;
         fresh = λ starts. refl;
         consistency = λ k took sent buffered consistency. consistency;
-        stage = stage;
+        at_step = at_step;
       }
 
       put-turn : HasPutOut worker_set m process_slot run made o → HasPutOut worker_set n next run made o
@@ -295,9 +297,9 @@ module _ (site_contents : SiteContents) (worker_set : WorkerSet) (laws : AllLaws
 
       putting-turn : (s : Step) → is_stopping (InProgress run s) ≡ false → is_starting (InProgress run s) ≡ false
           → HasStep job m w o run s
-          → ((after : Made) → IsPuttingOut worker_set n next run after o → Stage worker_set n next run after o s)
+          → ((after : Made) → IsPuttingOut worker_set n next run after o → IsAtStep worker_set n next run after o s)
           → IsPuttingOut worker_set m process_slot run made o → Turned s
-      putting-turn s going started has stages h = by still.instead still.puts_out
+      putting-turn s going started has at_steps h = by still.instead still.puts_out
         where
           still : PutsOutStill worker_set.turns worker_set.pools worker_set.Free worker_set.Expected n
               (worker_set.job_queue run.worker) h.has.pipe next made h.more r
@@ -317,7 +319,13 @@ module _ (site_contents : SiteContents) (worker_set : WorkerSet) (laws : AllLaws
               (worker_set.job_queue run.worker) h.has.pipe next made h.more → Turned s
           same puts =
               unchanged s
-              (stages made (record { has = pipe-turn run h.has; more = h.more; puts_out = puts; to_come = h.to_come }))
+              (at_steps made (record {
+                has = pipe-turn run h.has;
+                more = h.more;
+                puts_out = puts;
+                to_come =
+                    h.to_come;
+              }))
 
           other : (after : Made) (later : List ℕ) (x : IsExchanged r made after h.more later)
               → (shown_then : List Outcome) → after ≡ made_of w lines shown_then
@@ -334,8 +342,8 @@ module _ (site_contents : SiteContents) (worker_set : WorkerSet) (laws : AllLaws
                 → ConsistencyRun site_contents (response_to w made) k took sent buffered w o (InProgress run s)
                 → ConsistencyRun site_contents (response_to w a) k took sent buffered w o (InProgress run s)) is
                 (exchanged s after h.more later going has x.begins h.to_come);
-            stage = subst (λ (a : Made). Stage worker_set n next run a o s) is
-                (stages after (record {
+            at_step = subst (λ (a : Made). IsAtStep worker_set n next run a o s) is
+                (at_steps after (record {
                   has = pipe-turn run h.has;
                   more = later;
                   puts_out = puts;
@@ -362,26 +370,28 @@ module _ (site_contents : SiteContents) (worker_set : WorkerSet) (laws : AllLaws
               (subst (λ (os : List Outcome). AllMayShow site_contents there os) x.refused.was all))
               puts
 
-      stage-turn : (s : Step) → HasStep job m w o run s → Stage worker_set m process_slot run made o s → Turned s
-      stage-turn (GivingPipe write) has h = unchanged (GivingPipe write) (ready-turn run h)
-      stage-turn (MakingJob f) has h = unchanged (MakingJob f) (given-turn run f h)
-      stage-turn (WritingJob j f) has h = unchanged (WritingJob j f) (
+      at-step-turn : (s : Step) → HasStep job m w o run s → IsAtStep worker_set m process_slot run made o s → Turned s
+      at-step-turn (GivingPipe write) has h = unchanged (GivingPipe write) (ready-turn run h)
+      at-step-turn (MakingJob f) has h = unchanged (MakingJob f) (given-turn run f h)
+      at-step-turn (WritingJob j f) has h = unchanged (WritingJob j f) (
         given-turn run f h.0,
         subst (λ (u : State). lie_in worker_set.jobs (text u server j) ≡ true)
             (sym (waits (worker_set.job_queue run.worker) h.0.ready.free).0) h.1,
       )
-      stage-turn (DroppingEnd a held frame) has h = unchanged (DroppingEnd a held frame) (put-turn h)
-      stage-turn (DiscardingHeld held frame) has h = unchanged (DiscardingHeld held frame) (put-turn h)
-      stage-turn (ClosingOutput held frame) has h = unchanged (ClosingOutput held frame) (put-turn h)
-      stage-turn (DroppingFrame frame held) has h = unchanged (DroppingFrame frame held) (put-turn h)
-      stage-turn (MakingEnd held) has h = unchanged (MakingEnd held) (put-turn h)
-      stage-turn (FillingEnd held size frame) has h = unchanged (FillingEnd held size frame) (put-turn h)
-      stage-turn (DroppingLast held chunk len frame) has h = unchanged (DroppingLast held chunk len frame) (put-turn h)
-      stage-turn (DroppingLastFrame frame chunk len) has h = unchanged (DroppingLastFrame frame chunk len) (put-turn h)
-      stage-turn (ClosingPipe write) has h = absurd h
-      stage-turn (DiscardingJob j) has h = absurd h
-      stage-turn Failing has h = absurd h
-      stage-turn s has h = putting-turn s refl refl has (λ after puts. puts) h
+      at-step-turn (DroppingEnd a held frame) has h = unchanged (DroppingEnd a held frame) (put-turn h)
+      at-step-turn (DiscardingHeld held frame) has h = unchanged (DiscardingHeld held frame) (put-turn h)
+      at-step-turn (ClosingOutput held frame) has h = unchanged (ClosingOutput held frame) (put-turn h)
+      at-step-turn (DroppingFrame frame held) has h = unchanged (DroppingFrame frame held) (put-turn h)
+      at-step-turn (MakingEnd held) has h = unchanged (MakingEnd held) (put-turn h)
+      at-step-turn (FillingEnd held size frame) has h = unchanged (FillingEnd held size frame) (put-turn h)
+      at-step-turn (DroppingLast held chunk len frame) has h =
+          unchanged (DroppingLast held chunk len frame) (put-turn h)
+      at-step-turn (DroppingLastFrame frame chunk len) has h =
+          unchanged (DroppingLastFrame frame chunk len) (put-turn h)
+      at-step-turn (ClosingPipe write) has h = absurd h
+      at-step-turn (DiscardingJob j) has h = absurd h
+      at-step-turn Failing has h = absurd h
+      at-step-turn s has h = putting-turn s refl refl has (λ after puts. puts) h
 
     -- the run still has its objects
     has-turn : (job : ℕ → List ℕ) (w : Wanted) (o : Progress) (y : Running) → HasRun job m w o y → HasRun job n w o y
@@ -428,7 +438,7 @@ module _ (site_contents : SiteContents) (worker_set : WorkerSet) (laws : AllLaws
           sits =
               subst (λ z. slice_get (slice_set process_slots k next) z ≡ Some next)
               (sym (same-number run.worker k runs)) (set-same process_slots k process_slot next turn.sits);
-          stage = turned.stage;
+          at_step = turned.at_step;
         };
       };
     }
@@ -438,9 +448,9 @@ module _ (site_contents : SiteContents) (worker_set : WorkerSet) (laws : AllLaws
         f = at.fits
 
         turned : Turned run f.wanted f.script.lines f.shown f.so_far (job_of f.wanted f.script.text) s
-        turned = stage-turn run f.wanted f.script.lines f.shown f.so_far (job_of f.wanted f.script.text) s f.has.1
+        turned = at-step-turn run f.wanted f.script.lines f.shown f.so_far (job_of f.wanted f.script.text) s f.has.1
             (subst
-            (λ (t : ProcessSlot worker_set.Worker). Stage worker_set m t run
+            (λ (t : ProcessSlot worker_set.Worker). IsAtStep worker_set m t run
             (made_of f.wanted f.script.lines f.shown) f.so_far s)
-            (at-job_queue run f.job_queue.process_slot runs f.job_queue.sits) f.job_queue.stage)
+            (at-job_queue run f.job_queue.process_slot runs f.job_queue.sits) f.job_queue.at_step)
     own-fits fd x run script runs at = absurd (cc (runs))

@@ -27,7 +27,7 @@ use Rattle.flash_laws.specs.Run.{worker_domain, job_pipe}
 use Rattle.flash_laws.specs.Site.ClientConsistency.{FitsAt, AreAtJobQueues, AllFit}
 use Rattle.flash_laws.specs.SiteContents.{SiteContents}
 use Rattle.flash_laws.specs.Site.{server, KeepsSite}
-use Rattle.flash_laws.specs.Run.Stages.{HasPipeOf, IsGiven, IsPuttingOut, Stage}
+use Rattle.flash_laws.specs.Run.WorkerStates.{HasPipeOf, IsGiven, IsPuttingOut, IsAtStep}
 use Rattle.flash_laws.specs.declared.script_run.Run.{Run}
 use Rattle.flash_laws.specs.declared.script_run.Step.{Step}
 use Rattle.flash_laws.specs.declared.script_run.Step.TheVariants.{GivingPipe, MakingJob, WritingJob, DroppingEnd}
@@ -95,24 +95,24 @@ module _ (worker_set : WorkerSet) (laws : AllLaws worker_set) where
             clash (pipe_at m p).writing (order.all_stand d g (on.WriteEnd p) is)
             (subst (λ q. (pipe_at m q).writing ≡ false) (sym (same-pipe h.has)) there.closed)
 
-    stage-writes : (job : ℕ → List ℕ) (w : Wanted) (made : Made) (o : Progress) (s : Step) → HasStep job m w o run s
-        → Stage worker_set m process_slot run made o s
+    at-step-writes : (job : ℕ → List ℕ) (w : Wanted) (made : Made) (o : Progress) (s : Step) → HasStep job m w o run s
+        → IsAtStep worker_set m process_slot run made o s
         → is_stopping (InProgress run s) ≡ false → HasNotEnd m d (on.WriteEnd p)
-    stage-writes job w made o (GivingPipe write) has h going = had-writes write has.0
-    stage-writes job w made o (MakingJob f) has h going = given-writes f h
-    stage-writes job w made o (WritingJob j f) has h going = given-writes f h.0
-    stage-writes job w made o (DroppingEnd a held frame) has h going = absurd (cc (going))
-    stage-writes job w made o (DiscardingHeld held frame) has h going = absurd (cc (going))
-    stage-writes job w made o (ClosingOutput held frame) has h going = absurd (cc (going))
-    stage-writes job w made o (DroppingFrame frame held) has h going = absurd (cc (going))
-    stage-writes job w made o (MakingEnd held) has h going = absurd (cc (going))
-    stage-writes job w made o (FillingEnd held size frame) has h going = absurd (cc (going))
-    stage-writes job w made o (DroppingLast held chunk len frame) has h going = absurd (cc (going))
-    stage-writes job w made o (DroppingLastFrame frame chunk len) has h going = absurd (cc (going))
-    stage-writes job w made o (ClosingPipe write) has h going = absurd h
-    stage-writes job w made o (DiscardingJob j) has h going = absurd h
-    stage-writes job w made o Failing has h going = absurd h
-    stage-writes job w made o s has h going = puts-writes made o h
+    at-step-writes job w made o (GivingPipe write) has h going = had-writes write has.0
+    at-step-writes job w made o (MakingJob f) has h going = given-writes f h
+    at-step-writes job w made o (WritingJob j f) has h going = given-writes f h.0
+    at-step-writes job w made o (DroppingEnd a held frame) has h going = absurd (cc (going))
+    at-step-writes job w made o (DiscardingHeld held frame) has h going = absurd (cc (going))
+    at-step-writes job w made o (ClosingOutput held frame) has h going = absurd (cc (going))
+    at-step-writes job w made o (DroppingFrame frame held) has h going = absurd (cc (going))
+    at-step-writes job w made o (MakingEnd held) has h going = absurd (cc (going))
+    at-step-writes job w made o (FillingEnd held size frame) has h going = absurd (cc (going))
+    at-step-writes job w made o (DroppingLast held chunk len frame) has h going = absurd (cc (going))
+    at-step-writes job w made o (DroppingLastFrame frame chunk len) has h going = absurd (cc (going))
+    at-step-writes job w made o (ClosingPipe write) has h going = absurd h
+    at-step-writes job w made o (DiscardingJob j) has h going = absurd h
+    at-step-writes job w made o Failing has h going = absurd h
+    at-step-writes job w made o s has h going = puts-writes made o h
 
 -- ---- all job queues, and each client
 
@@ -171,11 +171,11 @@ module _ (site_contents : SiteContents) (worker_set : WorkerSet) (laws : AllLaws
 
         writes : (d : ℕ) → is_call_of e d ≡ true → HasNotEnd m d (on.WriteEnd q)
         writes d is =
-            stage-writes worker_set laws m order f.job_queue.process_slot run q opens d
+            at-step-writes worker_set laws m order f.job_queue.process_slot run q opens d
             (other-than d server is not_server)
             (λ same. other-than d (worker_domain run.worker) is (not_worker run.worker in_domain.0) (same
             ∙ in_domain.1))
-            _ f.wanted _ f.so_far s f.has.1 f.job_queue.stage going
+            _ f.wanted _ f.so_far s f.has.1 f.job_queue.at_step going
 
     -- the objects of a client are unchanged
     pub one-left : (fd : ℕ) (x : Client) → FitsAt site_contents worker_set m p fd x process_slots

@@ -1,7 +1,7 @@
 use Rattle.std.proofs.Common.{ℕ, List, [], Bool}
 use Rattle.iol_core.specs.State.{State}
 use Rattle.iol_core.specs.declared.events.Reply.{Reply}
-use Rattle.iol_proc.specs.World.{Stage, domains_of}
+use Rattle.iol_proc.specs.World.{WorldState, domains_of}
 use Rattle.iol_proc.specs.declared.choice.Choice.{Choice}
 use Rattle.flash_cgi.specs.declared.worker.Worker.{Worker}
 use Rattle.flash_laws.specs.SiteContents.{Refusals}
@@ -26,7 +26,7 @@ are-site_preserving c s slots xs rs turns idle after hosts refuses harmless fair
     harmless
 
 before : (s : Site) (slots : List (List ℕ)) (xs : List Choice) (rs : List Reply) (turns : ℕ) (idle : Bool)
-    (after : Stage State (Actor Worker))
+    (after : WorldState State (Actor Worker))
     (hosts : Hosts s slots xs rs turns idle after) (refuses : Refusals)
     → IsRightAfter s slots xs rs turns idle after hosts refuses
     → IsRightNow s slots xs rs turns idle after hosts refuses

@@ -2,7 +2,7 @@ use Rattle.std.proofs.Common.{◌≡◌, ℕ, List, ◌++◌, length, map, true,
 use Rattle.iol_core.specs.State.{State}
 use Rattle.iol_core.specs.declared.events.Reply.{Reply}
 use Rattle.iol_proc.specs.Idle.{rounds}
-use Rattle.iol_proc.specs.World.{Stage, domains_of}
+use Rattle.iol_proc.specs.World.{WorldState, domains_of}
 use Rattle.iol_proc.specs.declared.choice.Choice.{Choice}
 use Rattle.flash_cgi.specs.declared.worker.Worker.{Worker}
 use Rattle.flash_laws.specs.SiteContents.{Refusals}
@@ -21,7 +21,7 @@ use Rattle.flash_lite.proofs.laws.hosted_files_become_idle.Goals as goal
 
 module _ (c : goal.After-runs_are_fair) (s : Site) (slots : List (List ℕ)) (xs : List Choice) (rs : List Reply)
     (turns : ℕ) (idle : Bool)
-    (after : Stage State (Actor Worker)) (hosts : Hosts s slots xs rs turns idle after)
+    (after : WorldState State (Actor Worker)) (hosts : Hosts s slots xs rs turns idle after)
     (has : IsHostedLongEnough s slots xs rs turns idle after hosts) where
   with-these : (refuses : Refusals) → HasFairTurns s slots xs rs turns idle after hosts refuses
       → (idle ≡ true) × AreServed (worker_set_of s) (library_of s slots refuses)

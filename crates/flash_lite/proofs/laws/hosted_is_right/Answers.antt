@@ -1,7 +1,7 @@
 use Rattle.std.proofs.Common.{ℕ, List, Bool}
 use Rattle.iol_core.specs.State.{State}
 use Rattle.iol_core.specs.declared.events.Reply.{Reply}
-use Rattle.iol_proc.specs.World.{Stage}
+use Rattle.iol_proc.specs.World.{WorldState}
 use Rattle.iol_proc.specs.declared.choice.Choice.{Choice}
 use Rattle.flash_cgi.specs.declared.worker.Worker.{Worker}
 use Rattle.flash_laws.specs.SiteContents.{Refusals}
@@ -15,7 +15,7 @@ use Rattle.flash_lite.proofs.laws.hosted_is_right.Goals as goal
 
 fair-right : (c : goal.After-runs_are_fair) (s : Site) (slots : List (List ℕ)) (xs : List Choice) (rs : List Reply)
     (turns : ℕ) (idle : Bool)
-    (after : Stage State (Actor Worker)) (hosts : Hosts s slots xs rs turns idle after) (refuses : Refusals)
+    (after : WorldState State (Actor Worker)) (hosts : Hosts s slots xs rs turns idle after) (refuses : Refusals)
     → IsMildlyUsed s slots xs rs turns idle after hosts → HasFairTurns s slots xs rs turns idle after hosts refuses
     → IsRightAfter s slots xs rs turns idle after hosts refuses
 fair-right c s slots xs rs turns idle after hosts refuses site_preserving fair =

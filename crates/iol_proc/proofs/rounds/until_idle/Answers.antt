@@ -5,7 +5,7 @@ use Rattle.iol_proc.specs.Idle.{Idles, RoundRun, Went, is_idle, yields_of}
 use Rattle.iol_proc.specs.Turns.{TransitionRelation}
 use Rattle.iol_proc.proofs.Runs.{same_length}
 use Rattle.iol_proc.proofs.InRounds.{round_next, counted_next, first_next, rounds_run}
-use Rattle.iol_proc.specs.World.{Stage, sharing}
+use Rattle.iol_proc.specs.World.{WorldState, sharing}
 use Rattle.iol_proc.proofs.rounds.until_idle.Goals as goal
 
 -- one more turn
@@ -31,7 +31,7 @@ loop-i-preserved g c =
     }
 
 -- the turns that were taken, where no moment before the last was idle
-module _ {P : Type 0} (turns : TransitionRelation P) (w after : Stage SystemState P) (most i : ℕ) (idle : Bool)
+module _ {P : Type 0} (turns : TransitionRelation P) (w after : WorldState SystemState P) (most i : ℕ) (idle : Bool)
     (yields : List ℕ) where
   idles : (went : List Went) × RoundRun sharing turns w 0 went after × (length went ≡ i)
       × (yields ≡ yields_of (length w.process_slots) went)

@@ -18,8 +18,8 @@ returns-in_default-clause-serves g c = λ honest.
     serves_then g.P.Process.turns c.args.conn false false _ _ _ _ _ _ _ _ _ quiescent
     (serves_sent g.P.Process.turns c.args.conn left _ _ _ _ c.send-step.ensures.sends)
 
-pub returns-in-Quiet-clause-serves : goal.returns-in-Quiet-clause-serves
-returns-in-Quiet-clause-serves g c = λ honest.
+pub returns-in-Idle-clause-serves : goal.returns-in-Idle-clause-serves
+returns-in-Idle-clause-serves g c = λ honest.
     let left = g.R.Read.remaining c.args.reader.now in
     let quiescent = serves_alone g.P.Process.turns c.args.conn false left (g.W.Write.contents c.args.writer.now) _ _
     (c.quiesce-is_idle.ensures.proceeds honest) in

@@ -14,8 +14,8 @@ loop-preserved g c = record {
   sends = sends_then g.P.Process.turns c.args.conn _ _ _ _ _ _ c.loop.invariant.sends c.send_piece.ensures.sends;
 }
 
-pub returns-in-Quiet-clause-sends : goal.returns-in-Quiet-clause-sends
-returns-in-Quiet-clause-sends g c =
+pub returns-in-Idle-clause-sends : goal.returns-in-Idle-clause-sends
+returns-in-Idle-clause-sends g c =
     sends_then g.P.Process.turns c.args.conn _ _ _ _ _ _ c.loop.invariant.sends c.send_piece.ensures.sends
 
 pub returns-in_default-clause-sends : goal.returns-in_default-clause-sends

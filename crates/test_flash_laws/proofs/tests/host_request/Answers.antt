@@ -3,7 +3,7 @@ use Rattle.std.specs.Prelude.{Result, Ok, Err}
 use Rattle.iol_core.specs.declared.events.Event.TheVariants as event
 use Rattle.iol_core.specs.declared.events.Reply.{Reply}
 use Rattle.iol_system.specs.Prelude.{slots_of}
-use Rattle.iol_proc.specs.World.{Stage, copied}
+use Rattle.iol_proc.specs.World.{WorldState, copied}
 use Rattle.iol_proc.specs.declared.choice.Choice.{Choice}
 use Rattle.iol_proc.specs.declared.choice.Choice.TheVariants as choice
 use Rattle.iol_system.specs.Machine.{SystemState}
@@ -22,7 +22,7 @@ if-ok (Err e) p f = tt
 -- what is hosted by harmless choices is right
 is-right : (law : HarmlessIsRight) (s : Site) (stored : List (List ℕ)) (xs : List Choice) (rs : List Reply) (turns : ℕ)
     (idle : Bool)
-    (after : Stage SystemState (Actor Worker)) → Hosts s (slots_of stored) xs rs turns idle (copied after)
+    (after : WorldState SystemState (Actor Worker)) → Hosts s (slots_of stored) xs rs turns idle (copied after)
     → AreHarmless s xs
     → IsRightRun s stored rs turns idle after
 is-right law s stored xs rs turns idle after hosts harmless = record {

@@ -6,7 +6,7 @@ use Rattle.flash_lite.specs.Table.{serving}
 use Rattle.flash_lite.specs.ServerTurn.{filed_by}
 use Rattle.flash_lite.proofs.Turns.Invariant.{kept_turn}
 use Rattle.flash_lite.proofs.Responses.Offers.{offers_next}
-use Rattle.flash_lite.proofs.Turns.Quiet.{quiet_turn}
+use Rattle.flash_lite.proofs.Turns.CopyFree.{copy_free_turn}
 use Rattle.flash_lite.proofs.server.ServerProcess.next.Goals as goal
 
 pub invariant_of-self-2 : goal.invariant_of-self-2
@@ -15,9 +15,9 @@ invariant_of-self-2 c =
     (received c.readable_by-parts.result) c.in_ok-turn.turn c.readable_by-parts.ensures c.self.invariant
     c.in_ok-turn.ensures.turn
 
-pub returns-clause-quiet : goal.returns-clause-quiet
-returns-clause-quiet c =
-    quiet_turn c.self.inside.table c.advance.new.self c.args.last.now (received c.readable_by-parts.result)
+pub returns-clause-copy_free : goal.returns-clause-copy_free
+returns-clause-copy_free c =
+    copy_free_turn c.self.inside.table c.advance.new.self c.args.last.now (received c.readable_by-parts.result)
     c.in_ok-turn.turn c.in_ok-turn.ensures.turn
 
 pub returns-clause-offers : goal.returns-clause-offers

@@ -20,7 +20,8 @@ pub returns-in-Conn-clause-made : goal.returns-in-Conn-clause-made
 returns-in-Conn-clause-made g c =
     λ honest. subst (λ (r : Reply). OutsideStep copying g.P.Process.turns (copied c.args.self.now.world)
     (event.ConnNew g.V.Service.POOL) r (copied c.step_outside-reply.new.self))
-    c.in-Conn.is (subst (λ (p : ℕ). OutsideStep copying g.P.Process.turns (copied c.args.self.now.world) (event.ConnNew p)
+    c.in-Conn.is
+    (subst (λ (p : ℕ). OutsideStep copying g.P.Process.turns (copied c.args.self.now.world) (event.ConnNew p)
     c.step_outside-reply.result (copied c.step_outside-reply.new.self)) (c.new-pool.ensures ∙ c.POOL.ensures)
     (c.step_outside-reply.ensures.copied honest))
 
@@ -30,7 +31,8 @@ returns-in-Conn-clause-begun g c =
     c.step_outside-reply.new.self c.step_outside-reply.ensures.honest
     (λ honest. subst (λ (r : Reply). OutsideStep copying g.P.Process.turns (copied c.args.self.now.world)
     (event.ConnNew g.V.Service.POOL) r (copied c.step_outside-reply.new.self))
-    c.in-Conn.is (subst (λ (p : ℕ). OutsideStep copying g.P.Process.turns (copied c.args.self.now.world) (event.ConnNew p)
+    c.in-Conn.is
+    (subst (λ (p : ℕ). OutsideStep copying g.P.Process.turns (copied c.args.self.now.world) (event.ConnNew p)
     c.step_outside-reply.result (copied c.step_outside-reply.new.self)) (c.new-pool.ensures ∙ c.POOL.ensures)
     (c.step_outside-reply.ensures.copied honest))) c.args.self.now.served
 

@@ -13,7 +13,8 @@ invariant_of-self c = let s = c.args.self.now in
       apart = s.apart;
       came = come_renewed s.generation s.last s.table.items s.came;
       counted = sym (none_new s.generation s.last s.table.items s.came);
-      earlier = omega (arith, all, most, new, s.counted, s.earlier, c.len-places.ensures, c.saturating_add-self.ensures);
+      earlier =
+          omega (arith, all, most, new, s.counted, s.earlier, c.len-places.ensures, c.saturating_add-self.ensures);
     }
 
 pub returns-clause-earlier : goal.returns-clause-earlier

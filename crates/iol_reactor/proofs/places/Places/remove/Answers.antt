@@ -11,11 +11,13 @@ invariant_of-self g c = record {
 
 pub returns-clause-client : goal.returns-clause-client
 returns-clause-client g c =
-    taken_from c.args.self.now.clients.items c.args.slot _ _ (omega (arith, c.if-slot-len.false, c.len.ensures)) c.index_mut.ensures.value c.take.ensures.value
+    taken_from c.args.self.now.clients.items c.args.slot _ _ (omega (arith, c.if-slot-len.false, c.len.ensures))
+    c.index_mut.ensures.value c.take.ensures.value
 
 pub returns-clause-removed : goal.returns-clause-removed
 returns-clause-removed g c =
-    emptied c.args.self.now.clients.items c.args.slot _ (omega (arith, c.if-slot-len.false, c.len.ensures)) c.take.ensures.after
+    emptied c.args.self.now.clients.items c.args.slot _ (omega (arith, c.if-slot-len.false, c.len.ensures))
+    c.take.ensures.after
 
 pub returns-clause-history : goal.returns-clause-history
 returns-clause-history g c =
@@ -24,7 +26,9 @@ returns-clause-history g c =
     c.args.self.now.followed
 
 pub returns-then-slot-len-clause-client : goal.returns-then-slot-len-clause-client
-returns-then-slot-len-clause-client g c = sym (none_past c.args.self.now.clients.items c.args.slot (omega (arith, c.if-slot-len.true, c.len.ensures)))
+returns-then-slot-len-clause-client g c =
+    sym (none_past c.args.self.now.clients.items c.args.slot (omega (arith, c.if-slot-len.true, c.len.ensures)))
 
 pub returns-then-slot-len-clause-removed : goal.returns-then-slot-len-clause-removed
-returns-then-slot-len-clause-removed g c = none_past c.args.self.now.clients.items c.args.slot (omega (arith, c.if-slot-len.true, c.len.ensures))
+returns-then-slot-len-clause-removed g c =
+    none_past c.args.self.now.clients.items c.args.slot (omega (arith, c.if-slot-len.true, c.len.ensures))

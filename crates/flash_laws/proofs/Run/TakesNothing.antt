@@ -46,17 +46,17 @@ Bars s r = ⊥
 
 -- A reply r to the step s, with y as the next state, takes no bytes. It aborts only if the run was broken or the server
 -- may not read the output. It gives the script up only if the step may, and it hands the job over in order.
-abbrev pub Quiet : Run → Step → Reply → Running → Type 0
-Quiet run s r y = (taken_by y ≡ 0)
+abbrev pub TakesNothing : Run → Step → Reply → Running → Type 0
+TakesNothing run s r y = (taken_by y ≡ 0)
     × (breaks_off y ≡ true → (run.broken ≡ true) ⊎ Bars s r)
     × (is_failing y ≡ true → may_fail s ≡ true)
     × ((y ≡ InProgress run s) ⊎ ComesAfter (InProgress run s) r y)
 
 module _ (w : Wanted) (run : Run) where
-  gives : (write : ℕ) (r : Reply) → Quiet run (GivingPipe write) r (InProgress run (after_give write r))
+  gives : (write : ℕ) (r : Reply) → TakesNothing run (GivingPipe write) r (InProgress run (after_give write r))
   gives write (reply.Fd f) = (refl, λ b. inl b, λ z. refl, inr (write, refl, refl))
   gives write (reply.Refused x) =
-      either-way (λ (s : Step). Quiet run (GivingPipe write) (reply.Refused x) (InProgress run s)) (is_again x) (
+      either-way (λ (s : Step). TakesNothing run (GivingPipe write) (reply.Refused x) (InProgress run s)) (is_again x) (
         refl,
         λ b. inl b,
         λ z. refl,
@@ -64,14 +64,14 @@ module _ (w : Wanted) (run : Run) where
       ) (refl, λ b. inl b, λ z. refl, inr tt)
   gives write r = (refl, λ b. inl b, λ z. refl, inl refl)
 
-  makes : (f : ℕ) (r : Reply) → Quiet run (MakingJob f) r (InProgress run (after_make f r))
+  makes : (f : ℕ) (r : Reply) → TakesNothing run (MakingJob f) r (InProgress run (after_make f r))
   makes f (reply.Agg n) = (refl, λ b. inl b, λ z. absurd (cc (z)), inr (refl, refl))
   makes f r = (refl, λ b. inl b, λ z. absurd (cc (z)), inl refl)
 
-  hands : (j f : ℕ) (r : Reply) → Quiet run (WritingJob j f) r (InProgress run (after_hand j f r))
+  hands : (j f : ℕ) (r : Reply) → TakesNothing run (WritingJob j f) r (InProgress run (after_hand j f r))
   hands j f (reply.Count k) = (refl, λ b. inl b, λ z. refl, inr (f, k, refl, refl))
   hands j f (reply.Refused x) =
-      either-way (λ (s : Step). Quiet run (WritingJob j f) (reply.Refused x) (InProgress run s)) (is_again x) (
+      either-way (λ (s : Step). TakesNothing run (WritingJob j f) (reply.Refused x) (InProgress run s)) (is_again x) (
         refl,
         λ b. inl b,
         λ z. refl,
@@ -79,38 +79,39 @@ module _ (w : Wanted) (run : Run) where
       ) (refl, λ b. inl b, λ z. refl, inr tt)
   hands j f r = (refl, λ b. inl b, λ z. refl, inl refl)
 
-  lets : (j : ℕ) (r : Reply) → Quiet run (DroppingJob j) r (InProgress run (after_release_job j r))
+  lets : (j : ℕ) (r : Reply) → TakesNothing run (DroppingJob j) r (InProgress run (after_release_job j r))
   lets j reply.Done = (refl, λ b. inl b, λ z. absurd (cc (z)), inr (j, refl, refl))
   lets j r = (refl, λ b. inl b, λ z. absurd (cc (z)), inl refl)
 
   -- the step is unchanged
-  stays : (s : Step) (r : Reply) → is_part s ≡ false → Quiet run s r (InProgress run s)
+  stays : (s : Step) (r : Reply) → is_part s ≡ false → TakesNothing run s r (InProgress run s)
   stays (SendingPart d frame) r plain = absurd (cc (plain))
   stays s r plain = (refl, λ b. inl b, λ z. cc (z), inl refl)
 
   abbrev Then : Step → Reply → Step → Type 0
-  Then s r t = Quiet run s r (InProgress run t)
+  Then s r t = TakesNothing run s r (InProgress run t)
 
   holds : (s : Step) (r : Reply) (held size : ℕ) (frame : Option ℕ)
-      → Quiet run s r (InProgress run (holding held size frame))
+      → TakesNothing run s r (InProgress run (holding held size frame))
   holds s r held size frame = by (nat_lt size CHUNK_BYTES) frame
     where
       by : (b : Bool) (frame : Option ℕ)
-          → Quiet run s r (InProgress run (if b then ReadingOutput (Some (held, size)) frame else filled held frame))
+          → TakesNothing run s r
+          (InProgress run (if b then ReadingOutput (Some (held, size)) frame else filled held frame))
       by true frame = (refl, λ b. inl b, λ z. absurd (cc (z)), inr tt)
       by false None = (refl, λ b. inl b, λ z. absurd (cc (z)), inr tt)
       by false (Some f) = (refl, λ b. inl b, λ z. absurd (cc (z)), inr tt)
 
   hearing-on : (s : Step) (r : Reply) (c d : Bool) (held : Following) (frame : Option ℕ) (a len : ℕ)
       → is_handing (InProgress run s) ≡ false
-      → Quiet run s r (InProgress run (hearing c d held frame a len))
+      → TakesNothing run s r (InProgress run (hearing c d held frame a len))
   hearing-on s r true d held frame a len handed = (refl, λ b. inl b, λ z. absurd (cc (z)), inr tt)
   hearing-on s r false false held frame a len handed = (refl, λ b. absurd (cc (b)), λ z. absurd (cc (z)), inr handed)
   hearing-on s r false true None frame a len handed = holds s r a len frame
   hearing-on s r false true (Some x) frame a len handed = (refl, λ b. inl b, λ z. absurd (cc (z)), inr tt)
 
   receives : (held : Following) (frame : Option ℕ) (r : Reply) (received : List ℕ)
-      → Quiet run (ReadingOutput held frame) r (after_output w run held frame r received)
+      → TakesNothing run (ReadingOutput held frame) r (after_output w run held frame r received)
   receives held frame (reply.Agg n) [] = (refl, λ b. inl b, λ z. absurd (cc (z)), inr tt)
   receives held frame (reply.Agg n) (b ∷ received) =
       hearing-on (ReadingOutput held frame) (reply.Agg n) run.broken w.chunked held frame n (count_of (b ∷ received))
@@ -119,84 +120,86 @@ module _ (w : Wanted) (run : Run) where
   receives (Some x) frame (reply.Refused (no.Denied p)) received = (refl, λ b. inr tt, λ z. absurd (cc (z)), inr tt)
   receives held frame r received = (refl, λ b. inl b, λ z. absurd (cc (z)), inl refl)
 
-  finishes : (s : Step) (r : Reply) (b c : Bool) (held : Following) → Quiet run s r (finishing b c run held)
+  finishes : (s : Step) (r : Reply) (b c : Bool) (held : Following) → TakesNothing run s r (finishing b c run held)
   finishes s r false true held = (refl, λ b. inl b, λ z. absurd (cc (z)), inr tt)
   finishes s r false false held = (refl, λ b. absurd (cc (b)), λ z. absurd (cc (z)), inr tt)
   finishes s r true c held = (refl, λ b. absurd (cc (b)), λ z. absurd (cc (z)), inr tt)
 
   stops : (held : Following) (frame : Option ℕ) (r : Reply)
-      → Quiet run (ClosingOutput held frame) r (stopped w run held frame)
+      → TakesNothing run (ClosingOutput held frame) r (stopped w run held frame)
   stops held None r = finishes (ClosingOutput held None) r run.broken w.chunked held
   stops held (Some f) r = (refl, λ b. inl b, λ z. absurd (cc (z)), inr tt)
 
-  lasts : (held : Following) (r : Reply) (n len : ℕ) → Quiet run (MakingEnd held) r (ending run held n len)
+  lasts : (held : Following) (r : Reply) (n len : ℕ) → TakesNothing run (MakingEnd held) r (ending run held n len)
   lasts None r n len = (refl, λ b. absurd (cc (b)), λ z. absurd (cc (z)), inr tt)
   lasts (Some x) r n len = (refl, λ b. inl b, λ z. absurd (cc (z)), inr tt)
 
-  pub quiet : (s : Step) (r : Reply) (received : List ℕ) → is_part s ≡ false
-      → Quiet run s r (after_step w run s r received)
-  quiet (GivingPipe write) r received plain = gives write r
-  quiet (MakingJob f) r received plain = makes f r
-  quiet (WritingJob j f) r received plain = hands j f r
-  quiet (DroppingJob j) r received plain = lets j r
-  quiet MakingHead r received plain =
+  pub takes_nothing : (s : Step) (r : Reply) (received : List ℕ) → is_part s ≡ false
+      → TakesNothing run s r (after_step w run s r received)
+  takes_nothing (GivingPipe write) r received plain = gives write r
+  takes_nothing (MakingJob f) r received plain = makes f r
+  takes_nothing (WritingJob j f) r received plain = hands j f r
+  takes_nothing (DroppingJob j) r received plain = lets j r
+  takes_nothing MakingHead r received plain =
       after-agg (Then MakingHead r) r (stays MakingHead r refl)
       (λ n. (refl, λ b. absurd (cc (b)), λ z. absurd (cc (z)), inr refl))
-  quiet (SendingPart d frame) r received plain = absurd (cc (plain))
-  quiet (ReadingOutput held frame) r received plain = receives held frame r received
-  quiet (DroppingOutput a frame) r received plain =
+  takes_nothing (SendingPart d frame) r received plain = absurd (cc (plain))
+  takes_nothing (ReadingOutput held frame) r received plain = receives held frame r received
+  takes_nothing (DroppingOutput a frame) r received plain =
       after-done (Then (DroppingOutput a frame) r) r (stays (DroppingOutput a frame) r refl) (
         refl,
         λ b. inl b,
         λ z. absurd (cc (z)),
         inr tt,
       )
-  quiet (JoiningOutput held size piece len frame) r received plain = let s = JoiningOutput held size piece len frame in
+  takes_nothing (JoiningOutput held size piece len frame) r received plain = let s =
+      JoiningOutput held size piece len frame in
       after-agg (Then s r) r (stays s r refl) (λ n. holds s r n (both size len) frame)
-  quiet (MakingFrame held) r received plain =
+  takes_nothing (MakingFrame held) r received plain =
       after-agg (Then (MakingFrame held) r) r (stays (MakingFrame held) r refl)
       (λ n. (refl, λ b. inl b, λ z. absurd (cc (z)), inr tt))
-  quiet (FillingFrame held frame) r received plain =
+  takes_nothing (FillingFrame held frame) r received plain =
       after-agg (Then (FillingFrame held frame) r) r (stays (FillingFrame held frame) r refl)
       (λ n. (refl, λ b. inl b, λ z. absurd (cc (z)), inr tt))
-  quiet (DroppingHeld held chunk len frame) r received plain =
+  takes_nothing (DroppingHeld held chunk len frame) r received plain =
       after-done (Then (DroppingHeld held chunk len frame) r) r (stays (DroppingHeld held chunk len frame) r refl)
       (refl, λ b. absurd (cc (b)), λ z. absurd (cc (z)), inr refl)
-  quiet (DroppingEnd a held frame) r received plain =
+  takes_nothing (DroppingEnd a held frame) r received plain =
       after-done (Then (DroppingEnd a held frame) r) r (stays (DroppingEnd a held frame) r refl) (
         refl,
         λ b. inl b,
         λ z. absurd (cc (z)),
         inr tt,
       )
-  quiet (DiscardingHeld held frame) r received plain =
+  takes_nothing (DiscardingHeld held frame) r received plain =
       after-done (Then (DiscardingHeld held frame) r) r (stays (DiscardingHeld held frame) r refl) (
         refl,
         λ b. inl b,
         λ z. absurd (cc (z)),
         inr tt,
       )
-  quiet (ClosingOutput held frame) r received plain =
-      after-done (Quiet run (ClosingOutput held frame) r) r (stays (ClosingOutput held frame) r refl)
+  takes_nothing (ClosingOutput held frame) r received plain =
+      after-done (TakesNothing run (ClosingOutput held frame) r) r (stays (ClosingOutput held frame) r refl)
       (stops held frame r)
-  quiet (DroppingFrame f held) r received plain =
-      after-done (Quiet run (DroppingFrame f held) r) r (stays (DroppingFrame f held) r refl)
+  takes_nothing (DroppingFrame f held) r received plain =
+      after-done (TakesNothing run (DroppingFrame f held) r) r (stays (DroppingFrame f held) r refl)
       (finishes (DroppingFrame f held) r run.broken w.chunked held)
-  quiet (MakingEnd held) r received plain =
-      after-agg (Quiet run (MakingEnd held) r) r (stays (MakingEnd held) r refl)
+  takes_nothing (MakingEnd held) r received plain =
+      after-agg (TakesNothing run (MakingEnd held) r) r (stays (MakingEnd held) r refl)
       (λ n. lasts held r n (count_of received))
-  quiet (FillingEnd held size frame) r received plain =
+  takes_nothing (FillingEnd held size frame) r received plain =
       after-agg (Then (FillingEnd held size frame) r) r (stays (FillingEnd held size frame) r refl)
       (λ n. (refl, λ b. inl b, λ z. absurd (cc (z)), inr tt))
-  quiet (DroppingLast held chunk len frame) r received plain =
+  takes_nothing (DroppingLast held chunk len frame) r received plain =
       after-done (Then (DroppingLast held chunk len frame) r) r (stays (DroppingLast held chunk len frame) r refl)
       (refl, λ b. inl b, λ z. absurd (cc (z)), inr tt)
-  quiet (DroppingLastFrame frame chunk len) r received plain =
-      after-done (Quiet run (DroppingLastFrame frame chunk len) r) r (stays (DroppingLastFrame frame chunk len) r refl)
+  takes_nothing (DroppingLastFrame frame chunk len) r received plain =
+      after-done (TakesNothing run (DroppingLastFrame frame chunk len) r) r
+      (stays (DroppingLastFrame frame chunk len) r refl)
       (refl, λ b. absurd (cc (b)), λ z. absurd (cc (z)), inr tt)
-  quiet (ClosingPipe write) r received plain =
+  takes_nothing (ClosingPipe write) r received plain =
       after-done (Then (ClosingPipe write) r) r (stays (ClosingPipe write) r refl) (refl, λ b. inl b, λ z. refl, inr tt)
-  quiet (DiscardingJob j) r received plain =
+  takes_nothing (DiscardingJob j) r received plain =
       after-done (Then (DiscardingJob j) r) r (stays (DiscardingJob j) r refl) (refl, λ b. inl b, λ z. refl, inr tt)
-  quiet Failing r received plain =
-      after-done (Quiet run Failing r) r (stays Failing r refl) (refl, λ b. absurd (cc (b)), λ z. refl, inr tt)
+  takes_nothing Failing r received plain =
+      after-done (TakesNothing run Failing r) r (stays Failing r refl) (refl, λ b. absurd (cc (b)), λ z. refl, inr tt)

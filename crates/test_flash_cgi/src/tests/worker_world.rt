@@ -14,7 +14,7 @@ use test_worlds::systems::{TestSystem, call_of};
 use test_worlds::worlds::TestWorld;
 
 /// The world of a worker.
-pub type Stage = TestWorld<MemoryBacking, Worker>;
+pub type WorkerWorld = TestWorld<MemoryBacking, Worker>;
 
 fn domains(alloc: Global, numbers: &[u32]) -> Result<Domains, AllocError> {
     let mut list = Vec::new(alloc);
@@ -61,7 +61,7 @@ fn beginnings(alloc: Global, files: &[Kept<'_>]) -> Result<Vec<Event>, AllocErro
 }
 
 /// The world of a worker that waits for its first job, with files.
-pub fn stage_of(alloc: Global, files: &[Kept<'_>]) -> Result<Stage, Refusal> {
+pub fn worker_world(alloc: Global, files: &[Kept<'_>]) -> Result<WorkerWorld, Refusal> {
     let store = store_of(alloc, files)?;
     let events = beginnings(alloc, files)?;
     let system = TestSystem::begun(alloc, Config::DEFAULT, store, &[&events])?;
@@ -70,11 +70,11 @@ pub fn stage_of(alloc: Global, files: &[Kept<'_>]) -> Result<Stage, Refusal> {
 
 /// Returns the result of a test in the world of a worker without files, which is dropped
 /// afterwards.
-pub fn on_stage<F: FnOnce(&mut Stage) -> bool + Drop>(
+pub fn in_worker_world<F: FnOnce(&mut WorkerWorld) -> bool + Drop>(
     alloc: Global,
     goes: F,
 ) -> Result<bool, Refusal>
     requires { F.IsAlwaysCallable goes }
 {
-    lend(stage_of(alloc, &[]), goes)
+    lend(worker_world(alloc, &[]), goes)
 }

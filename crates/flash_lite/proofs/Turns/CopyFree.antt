@@ -2,7 +2,7 @@
 use Rattle.std.proofs.Common.{ℕ, Bool, true, false, List, Option, Some, None, sym, subst, if◌then◌else◌}
 use Rattle.iol_core.specs.declared.events.Call.TheVariants as call
 use Rattle.iol_core.specs.declared.events.Reply.{Reply}
-use Rattle.iol_proc.specs.Quiet.{IsCopyFree, IsCopyFreeCall}
+use Rattle.iol_proc.specs.CopyFree.{IsCopyFree, IsCopyFreeCall}
 use Rattle.iol_proc.specs.declared.process.Turn.{Turn}
 use Rattle.iol_proc.specs.declared.process.Turn.TheVariants as turn
 use Rattle.flash_http.specs.Request.{Answer, serve, refuse, Wanted}
@@ -51,24 +51,24 @@ run job fd w (InProgress r s) = step job fd w r s
 run job fd w (Finishing d) = phase fd (in_phase w d).buffered (in_phase w d).request d
 run job fd w Finished = tt
 
-quiet-wants : (scripts : Bool) (fd : ℕ) (c : Conn) (r : Option Running) (script : List ℕ)
+copy-free-call : (scripts : Bool) (fd : ℕ) (c : Conn) (r : Option Running) (script : List ℕ)
     → IsCopyFreeCall (next_call scripts fd (record { conn = c; run = r; script = script }))
-quiet-wants scripts fd c None script = script-phase (is_for_script scripts c.request) fd c.buffered c.request c.phase
-quiet-wants scripts fd c (Some y) script = by c.request
+copy-free-call scripts fd c None script = script-phase (is_for_script scripts c.request) fd c.buffered c.request c.phase
+copy-free-call scripts fd c (Some y) script = by c.request
   where
     by : (q : Answer) → IsCopyFreeCall (run_call fd q script y)
     by (serve w) = run (λ g. job_of w script g) fd w y
     by (refuse status head_only close) = tt
 
-quiet-picks : (workers : ℕ) (l : List (Option Client)) (pending_call : PendingCall) (made : Turn)
+copy-free-pick : (workers : ℕ) (l : List (Option Client)) (pending_call : PendingCall) (made : Turn)
     (after : List (Option Client)) → Picks workers l pending_call made after → IsCopyFree made
-quiet-picks workers l Nothing made after p = subst (λ (t : Turn). IsCopyFree t) (sym p.1) tt
-quiet-picks workers l Accepting made after p = subst (λ (t : Turn). IsCopyFree t) (sym p.1) tt
-quiet-picks workers l (At fd) made after p =
+copy-free-pick workers l Nothing made after p = subst (λ (t : Turn). IsCopyFree t) (sym p.1) tt
+copy-free-pick workers l Accepting made after p = subst (λ (t : Turn). IsCopyFree t) (sym p.1) tt
+copy-free-pick workers l (At fd) made after p =
     subst (λ (t : Turn). IsCopyFree t) (sym p.call_is)
-    (quiet-wants (runs_scripts workers) fd p.ready.conn p.ready.run p.ready.script)
+    (copy-free-call (runs_scripts workers) fd p.ready.conn p.ready.run p.ready.script)
 
-pub quiet_turn : (s t : Table) (r : Reply) (received : List ℕ) (made : Turn) → Turns s r received made t
+pub copy_free_turn : (s t : Table) (r : Reply) (received : List ℕ) (made : Turn) → Turns s r received made t
     → IsCopyFree made
-quiet_turn s t r received made turns =
-    quiet-picks s.workers (filed_by s r received) t.pending_call made t.clients turns.picks
+copy_free_turn s t r received made turns =
+    copy-free-pick s.workers (filed_by s r received) t.pending_call made t.clients turns.picks

@@ -77,15 +77,15 @@ module _ (worker_set : WorkerSet) where
 
   -- The state of the worker in this process slot at a step of a run. The steps after a failed handover of the pipe or
   -- the job are impossible.
-  abbrev pub Stage : State → ProcessSlot worker_set.Worker → Run → (made : Made) → Progress → Step → Type 0
-  Stage m process_slot run made o (GivingPipe write) = IsReadyFor m process_slot run
-  Stage m process_slot run made o (MakingJob f) = IsGiven m process_slot run f
-  Stage m process_slot run made o (WritingJob j f) =
+  abbrev pub IsAtStep : State → ProcessSlot worker_set.Worker → Run → (made : Made) → Progress → Step → Type 0
+  IsAtStep m process_slot run made o (GivingPipe write) = IsReadyFor m process_slot run
+  IsAtStep m process_slot run made o (MakingJob f) = IsGiven m process_slot run f
+  IsAtStep m process_slot run made o (WritingJob j f) =
       IsGiven m process_slot run f × IsTrue (lie_in worker_set.jobs (text m server j))
-  Stage m process_slot run made o (ClosingPipe write) = ⊥
-  Stage m process_slot run made o (DiscardingJob j) = ⊥
-  Stage m process_slot run made o Failing = ⊥
-  Stage m process_slot run made o step = OutputFrom (is_stopping (InProgress run step)) m process_slot run made o
+  IsAtStep m process_slot run made o (ClosingPipe write) = ⊥
+  IsAtStep m process_slot run made o (DiscardingJob j) = ⊥
+  IsAtStep m process_slot run made o Failing = ⊥
+  IsAtStep m process_slot run made o step = OutputFrom (is_stopping (InProgress run step)) m process_slot run made o
 
   -- the worker of a run, and its state
   pub record AtJobQueue (m : State) (process_slots : List (ProcessSlot worker_set.Worker)) (run : Run) (made : Made)
@@ -93,7 +93,7 @@ module _ (worker_set : WorkerSet) where
       (step : Step) : Type 0 where
     pub process_slot : ProcessSlot worker_set.Worker
     pub sits : slice_get process_slots run.worker ≡ Some process_slot
-    pub stage : Stage m process_slot run made o step
+    pub at_step : IsAtStep m process_slot run made o step
 
   -- the same for a run, if it has a worker
   abbrev pub HasWorkerAt : State → (process_slots : List (ProcessSlot worker_set.Worker)) → (made : Made) → Progress
