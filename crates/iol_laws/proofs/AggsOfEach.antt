@@ -23,13 +23,13 @@ use Rattle.iol_laws.proofs.Gives.{agg_given}
 use Rattle.iol_laws.proofs.Domains.{domains-with_conn, domains-with_pipe, kept-read_on}
 use Rattle.iol_laws.proofs.Tests.{same-number}
 
--- P holds of no aggregates, of one more under the next number where Q holds of it, and of one fewer.
+-- P holds for no aggregates, for one more under the next number if Q holds for it, and for one fewer.
 pub record IsOfAggs (P : (d : ℕ) → List (ℕ × Text) → (next : ℕ) → Type 0) (Q : (d n : ℕ) → Text → Type 0) : Type 0 where
   pub none : (d n : ℕ) → P d [] n
   pub added : (d n : ℕ) (kept : List (ℕ × Text)) (t : Text) → Q d n t → P d kept n → P d (kept ++ (n, t) ∷ []) (n + 1)
   pub gone : (d n : ℕ) (kept : List (ℕ × Text)) (a : ℕ) → P d kept n → P d (without kept a) n
 
--- what a call brings, and to whom
+-- the condition Q for each aggregate that a call creates, with its domain and number
 abbrev pub Brings : (Q : (d n : ℕ) → Text → Type 0) → State → (by : ℕ) → Call → Type 0
 Brings Q s by (call.AggMake bytes) = Q by (aggs.next_agg s by) (labelled (aggs.default_pool s by) bytes)
 Brings Q s by (call.AggDup a) = Q by (aggs.next_agg s by) (text s by a)

@@ -37,8 +37,8 @@ use Rattle.iol_laws.proofs.Gives.{agg_given, fd_given}
 use Rattle.iol_laws.specs.Frame.{operands}
 use Rattle.iol_laws.proofs.Tests.{apart, both-false, left-false, right-false, same-number}
 
--- A domain ends, has another default pool, has x open under the next number, has o under a number, has one more
--- aggregate, or one fewer.
+-- A change of a domain: it ends, gets another default pool, opens x under the next number, sets a descriptor to o, or
+-- gains or loses an aggregate.
 pub data OfDomain : Type 0 where
   Ends : OfDomain
   Prefers : (p : ℕ) → OfDomain
@@ -55,7 +55,7 @@ domain_by (Sets fd o) x = record x { fds = slice_set x.fds fd o }
 domain_by (Adds t) x = record x { aggs = x.aggs ++ (x.next_agg, t) ∷ []; next_agg = x.next_agg + 1 }
 domain_by (Drops a) x = record x { aggs = without x.aggs a }
 
--- the first bytes of a pipe are read, some are written to it, or one of its ends is closed
+-- a change of a pipe: its first bytes are read, bytes are written, or one of its ends is closed
 pub data OfPipe : Type 0 where
   Takes : (n : ℕ) → OfPipe
   Puts : (w : Text) → OfPipe
@@ -68,13 +68,13 @@ pipe_by (Puts w) x = record x { queue = x.queue ++ w }
 pipe_by EndsReads x = record x { queue = []; reading = false }
 pipe_by EndsWrites x = record x { writing = false }
 
--- what a call does to the object of a descriptor
+-- the act of a call on the object of a descriptor
 pub data Act : Type 0 where
   Reads : (n : ℕ) → Act
   Writes : (w : Text) → Act
   Closes : Act
 
--- a connection is used by a call, or accepted; bytes arrive, its peer closes it, or bytes are sent
+-- a change of a connection: a call uses or accepts it, bytes arrive, its peer closes it, or bytes are sent
 pub data OfConn : Type 0 where
   IsUsed : (act : Act) → OfConn
   IsTaken : OfConn
@@ -95,7 +95,7 @@ conn_by (Receives bytes) k =
 conn_by (IsLeft how) k = closed_by k how
 conn_by (Sends max) k = record k { outgoing = drop max k.outgoing }
 
--- a change of one object, or a new one
+-- a change of one object, or the creation of one
 pub data Change : Type 0 where
   OnDomain : (d : ℕ) → OfDomain → Change
   OnPipe : (p : ℕ) → OfPipe → Change
@@ -125,7 +125,7 @@ changed s (NewConn p) = record s { conns = s.conns ++ (s.next_conn, new_conn p) 
 abbrev pub all_changed : State → List Change → State
 all_changed s cs = fold changed s cs
 
--- the use of the object that a descriptor of a domain is open on
+-- the use of a descriptor's object, for a descriptor of a domain
 pub record Use : Type 0 where
   pub by : ℕ
   pub fd : ℕ
@@ -152,7 +152,7 @@ abbrev pub closings : (by : ℕ) → List (Option Descriptor) → List Use
 closings by [] = []
 closings by (o ∷ list) = record { by = by; fd = 0; end = o; act = Closes } ∷ closings by list
 
--- the uses that a call makes of objects of descriptors
+-- the uses of descriptors' objects by a call
 abbrev pub uses : State → (by : ℕ) → Call → List Use
 uses s by call.Exit = closings by (domain s by).fds
 uses s by (call.Close fd) = record { by = by; fd = fd; end = descriptor s by fd; act = Closes } ∷ []
@@ -195,7 +195,7 @@ abbrev pub hands : (by fd to : ℕ) → Option Descriptor → List Change
 hands by fd to None = []
 hands by fd to (Some x) = OnDomain by (Sets fd None) ∷ OnDomain to (Opens x) ∷ []
 
--- the other changes that a call makes, which come first
+-- the other changes of a call, which precede its uses
 abbrev pub own : State → (by : ℕ) → Call → List Change
 own s by call.DomainNew = NewDomain ∷ []
 own s by call.Exit = OnDomain by Ends ∷ []
@@ -242,7 +242,7 @@ changes s (event.Transmit c max) = OnConn c (Sends max) ∷ []
 changes s event.Flush = []
 changes s event.DropClean = []
 
--- They are what the event does.
+-- The changes of an event have its effect.
 
 -- two changes of a domain are one
 twice : (s : State) (d : ℕ) (x : Domain Text) (g : Domain Text → Domain Text)
@@ -253,7 +253,7 @@ twice s d x g = elim (in-range s d) [
   | inr none ↦ none (g x) ∙ sym (with_domain-twice s d x _ ∙ none _)
 ]
 
--- changes of a domain and of something else, in either order
+-- a change of a domain and a change of another object commute
 over_pipe : (s : State) (p d : ℕ) (x : OfPipe) (y : Domain Text)
     → with_domain (changed s (OnPipe p x)) d y ≡ changed (with_domain s d y) (OnPipe p x)
 unfolding with_domain with_pipe pipe_at
@@ -314,7 +314,7 @@ written_one : (s : State) (by fd : ℕ) (o : Option Descriptor) (w : Text)
 written_one s by fd (Some (on.File f at mode)) w = refl
 written_one s by fd o w = refl
 
--- one domain changes, and another
+-- changes of two different domains commute
 swapped : (xs : List (Domain Text)) (d e : ℕ) (x y : Domain Text) → d ≢ e
     → with_numbered (with_numbered xs e y) d x ≡ with_numbered (with_numbered xs d x) e y
 swapped xs d e x y differ = elim (cases_eq d 0) [
@@ -426,7 +426,7 @@ changes-meant s e = refl
 
 -- Tests that changes fail.
 
--- what each change that fails a test keeps, all of them together keep
+-- an invariant of each change that fails a test is an invariant of every list of such changes
 pub kept_all : (P : State → Type 0) (test : Change → Bool)
     → ((s : State) (c : Change) → test c ≡ false → P s → P (changed s c)) → (s : State) (cs : List Change)
     → list_any test cs ≡ false → P s → P (all_changed s cs)
@@ -435,7 +435,7 @@ kept_all P test each s (c ∷ cs) un was =
     kept_all P test each (changed s c) cs (right-false (test c) (list_any test cs) un)
     (each s c (left-false (test c) (list_any test cs) un) was)
 
--- what no descriptor of the domain passes, no operand of its call passes
+-- if no descriptor of a domain passes a test, no operand of its call does
 pub none-open : (test : Option Descriptor → Bool) (xs : List (Option Descriptor))
     → ((n : ℕ) → test (in_place xs n) ≡ false) → list_any test xs ≡ false
 none-open test [] none = refl
@@ -451,7 +451,7 @@ operands-none test s d (call.Read fd n) none = both-false _ _ (none fd) refl
 operands-none test s d (call.Write fd bytes) none = both-false _ _ (none fd) refl
 operands-none test s d k none = refl
 
--- the operands of a call are what its uses are of
+-- if no operand of a call passes a test, the descriptor of none of its uses does
 pub ends-used : (test : Option Descriptor → Bool) (s : State) (by : ℕ) (k : Call)
     → list_any test (operands s (event.Call by k)) ≡ false → list_any (λ u. test u.end) (uses s by k) ≡ false
 ends-used test s by call.Exit un = each (domain s by).fds un
@@ -480,7 +480,7 @@ pub none_at_all : {A : Type 0} (xs : List A) → list_any (λ x. false) xs ≡ f
 none_at_all [] = refl
 none_at_all (x ∷ xs) = none_at_all xs
 
--- no change of a use passes a test, where the uses pass none
+-- if no use passes its test, no change of these uses passes the test of changes
 none_used : (s : State) (of_use : Use → Bool) (test : Change → Bool)
     → ((u : Use) → of_use u ≡ false → list_any test (used_as s u.by u.fd u.end u.act) ≡ false)
     → (us : List Use) → list_any of_use us ≡ false → list_any test (all_used s us) ≡ false
@@ -496,7 +496,7 @@ pub none_changed : (s : State) (by : ℕ) (k : Call) (of_use : Use → Bool) (te
 none_changed s by k of_use test each un first = list_any-append test (own s by k) (all_used s (uses s by k))
     ∙ both-false _ _ first (none_used s of_use test each (uses s by k) un)
 
--- What holds before holds after a call, if each change that it may make keeps it.
+-- An invariant of each change that a call may make is an invariant of the call.
 pub kept_called : (P : State → Type 0) (test : Change → Bool)
     → ((s : State) (c : Change) → test c ≡ false → P s → P (changed s c))
     → (s : State) (by : ℕ) (k : Call) (of_use : Use → Bool)
@@ -506,7 +506,7 @@ kept_called P test each s by k of_use unused un first was =
     subst P (sym (changes-meant s (event.Call by k)))
     (kept_all P test each s (changes s (event.Call by k)) (none_changed s by k of_use test unused un first) was)
 
--- whether it writes
+-- whether the act is a write
 abbrev pub is_write : Act → Bool
 is_write (Writes w) = true
 is_write act = false
@@ -516,7 +516,7 @@ is_writing (call.IolWrite fd a) = true
 is_writing (call.Write fd bytes) = true
 is_writing k = false
 
--- the same of a call that writes nothing, where each change by other uses keeps it
+-- the same for a call that writes nothing, if uses other than writes make only such changes
 pub kept_unwritten : (P : State → Type 0) (test : Change → Bool)
     → ((s : State) (c : Change) → test c ≡ false → P s → P (changed s c))
     → ((s : State) (by fd : ℕ) (o : Option Descriptor) (act : Act) → is_write act ≡ false
@@ -534,7 +534,7 @@ kept_unwritten P test each used s by k un first was =
     no_writes s by (call.Write fd bytes) un = absurd (cc)
     no_writes s by k un = refl
 
--- and after every event, if every change keeps it
+-- an invariant of every change is an invariant of every event
 pub kept_always : (P : State → Type 0) → ((s : State) (c : Change) → P s → P (changed s c)) → (s : State) (e : Event)
     → P s → P (meaning s e).after
 kept_always P each s e was =

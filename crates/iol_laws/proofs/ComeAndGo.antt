@@ -29,12 +29,12 @@ use Rattle.iol_laws.proofs.Domains.{domain-with_other, domain-with_same, domains
 use Rattle.iol_laws.proofs.Places.{lookup-push_other, lookup-without_none}
 use Rattle.iol_laws.proofs.Tests.{apart, both-true, same-number, differs, either}
 
--- What a domain has not, after each event.
+-- The aggregates that a domain lacks, after each event.
 
 abbrev Lacks : State → (d a : ℕ) → Type 0
 Lacks s d a = aggregate s d a ≡ None
 
--- domain d has not aggregate a, by what each has
+-- domain d lacks aggregate a, as a property of domain e with these aggregates
 abbrev LacksIn : (d a e : ℕ) → List (ℕ × Text) → (next : ℕ) → Type 0
 LacksIn d a e kept n = e ≡ d → lookup kept a ≡ None
 
@@ -94,16 +94,16 @@ none_step s t e r d a step none un = ap (λ u. readable_at u d a) step.2
     ∙ unlent (meaning s e).after d a
     (lacks_meant s e d a (sym (ap (λ q. brings e q d a) step.1) ∙ un) (readable-none s d a none))
 
--- What is given up.
+-- Aggregates that are given up.
 
--- two more behind a list
+-- two aggregates are appended to a list
 pub pushed-two : (kept : List (ℕ × Text)) (n a : ℕ) (t u : Text) → n ≢ a → n + 1 ≢ a
     → lookup (kept ++ (n, t) ∷ (n + 1, u) ∷ []) a ≡ lookup kept a
 pushed-two kept n a t u one two =
     sym (ap (λ (l : List (ℕ × Text)). lookup l a) (append_assoc kept ((n, t) ∷ []) ((n + 1, u) ∷ [])))
     ∙ (lookup-push_other (kept ++ (n, t) ∷ []) (n + 1) a u two ∙ lookup-push_other kept n a t one)
 
--- a number that a domain has is below its next
+-- the number of an existing aggregate is neither of the next two numbers
 below : (s : State) (d a : ℕ) → IsOrderly s → aggs.lacks_agg s d a ≡ false
     → (aggs.next_agg s d ≢ a) × (aggs.next_agg s d + 1 ≢ a)
 below s d a order has = (λ same. gone (omega (arith, same)) has, λ same. gone (omega (arith, same)) has)
@@ -111,7 +111,7 @@ below s d a order has = (λ same. gone (omega (arith, same)) has, λ same. gone 
     gone : aggs.next_agg s d ≤ a → aggs.lacks_agg s d a ≡ false → ⊥
     gone past has = (let e = ap (λ (o : Option Text). is_none o) (order.aggs d a past) in absurd (cc (e, has)))
 
--- the domain by itself, after a change of it: it lives
+-- a live domain whose entry is replaced by one without the aggregate
 of-own : (s : State) (by a : ℕ) (y : Domain Text) → is_live s by ≡ true → lookup y.aggs a ≡ None
     → Lacks (with_domain s by y) by a
 of-own s by a y live none = ap (λ (z : Domain Text). lookup z.aggs a) (domain-with_same s by y live) ∙ none
@@ -168,7 +168,7 @@ gone_give s by a to order live has =
     of-own given by a _ (ap (λ (y : Domain Text). y.live) same ∙ live)
     (forgotten (domain given by).aggs a (subst (λ (y : Domain Text). Once y.aggs) (sym same) (order.aggs_once by))))
 
--- what the domain gives up is its own
+-- an event gives up only aggregates of its caller
 mine : (by d : ℕ) (b : Bool) → ((by == d) && b) ≡ true → (by ≡ d) × (b ≡ true)
 mine by d b is = let two = both-true (by == d) b is in (same-number by d two.0, two.1)
 

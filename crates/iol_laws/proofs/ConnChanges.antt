@@ -20,7 +20,7 @@ use Rattle.iol_laws.proofs.Gives.{agg_given, fd_given}
 use Rattle.iol_laws.specs.Order.{Once}
 use Rattle.iol_laws.proofs.Connections.{once-with_conn}
 
--- its first bytes are read, some are written to it, it is closed, or accepted
+-- a change of a connection: its first bytes are read, bytes are written, it is closed, or it is accepted
 pub data Change : Type 0 where
   Reads : (n : ℕ) → Change
   Writes : (w : Text) → Change
@@ -40,7 +40,7 @@ abbrev pub all_turned : State → List (ℕ × Change) → State
 all_turned s [] = s
 all_turned s (e ∷ es) = all_turned (turned s e) es
 
--- what changes where a descriptor is used so
+-- the connection that a descriptor is open on, with this change
 abbrev pub on_conn : Option Descriptor → Change → List (ℕ × Change)
 on_conn (Some (on.Connection c)) x = (c, x) ∷ []
 on_conn o x = []
@@ -65,7 +65,7 @@ changes s d (call.Write f bytes) =
 changes s d call.Accept = (unwrap_or (fds.waiting s d) 0, Takes) ∷ []
 changes s d k = []
 
--- the same connections
+-- connections and their next number are unchanged
 pub record SameConns (s t : State) : Type 0 where
   pub conns : t.conns ≡ s.conns
   pub next : t.next_conn ≡ s.next_conn
@@ -74,7 +74,7 @@ conns_domain : (s t : State) (d : ℕ) (x : Domain Text) → SameConns s t → S
 unfolding with_domain
 conns_domain s t d x same = record { conns = same.conns; next = same.next }
 
--- a change of the same connections
+-- the same change of equal connections
 conns_more : (s t : State) (e : ℕ × Change) → SameConns s t → SameConns (turned s e) (turned t e)
 unfolding with_conn conn_at
 conns_more s t e same = record { conns = ap with_change same.conns; next = same.next }
@@ -149,7 +149,7 @@ conns_turned s d k = record { conns = refl; next = refl }
 pub once_turned : (s : State) (e : ℕ × Change) → Once s.conns → Once (turned s e).conns
 once_turned s e once = once-with_conn s e.0 (changed_by e.1 (conn_at s e.0)) once
 
--- What is written to is open, and what is closed was accepted.
+-- A connection that is written to is accepted and open, and one that is closed is accepted.
 abbrev pub IsAllowed : State → ℕ × Change → Type 0
 IsAllowed s (c, Writes w) = ((conn_at s c).accepted ≡ true) × ((conn_at s c).closed ≡ false)
 IsAllowed s (c, Closes) = (conn_at s c).accepted ≡ true

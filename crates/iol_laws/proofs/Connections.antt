@@ -19,7 +19,7 @@ use Rattle.iol_laws.specs.Order.{Once}
 use Rattle.iol_laws.proofs.Places.{changed-none, lookup-changed, lookup-changed_same, lookup-push, lookup-push_other}
 use Rattle.iol_laws.proofs.Places.{lookup-without_none}
 
--- all connections but those that a test names
+-- all connections are unchanged, except those that a test names
 abbrev pub KeepsConns : (s t : State) → (ℕ → Bool) → Type 0
 KeepsConns s t touched = (c : ℕ) → touched c ≡ false → conn_at t c ≡ conn_at s c
 
@@ -67,7 +67,7 @@ unfolding conn_at
 conn-made s p none =
     ap (λ (o : Option Connection). unwrap_or o no_conn) (lookup-push s.conns s.next_conn (new_conn p) none)
 
--- a connection that lives and is not over is as it was set
+-- a connection that is not closed has the value that was set, unless that is over
 pub conn-with_same : (s : State) (c : ℕ) (x : Connection) → (conn_at s c).closed ≡ false → is_over x ≡ false
     → conn_at (with_conn s c x) c ≡ x
 unfolding conn_at with_conn
@@ -91,9 +91,9 @@ nothing-left (x ∷ out) b is = absurd (let e : (length (x ∷ out) == 0) ≡ fa
     by true e is = cc
     by false e is = cc
 
--- Numbers that stand once.
+-- Unique numbers.
 
--- what is taken away is not found
+-- an element that is removed is not found
 pub forgotten : {A : Type 0} (es : List (ℕ × A)) (c : ℕ) → Once es → lookup (without es c) c ≡ None
 forgotten [] c once = refl
 forgotten (e ∷ es) c once =
@@ -124,7 +124,7 @@ conn-missing s c x none over =
     ap (λ b. unwrap_or (lookup (if b then without s.conns c else changed s.conns c x) c) no_conn) over
     ∙ ap (λ (o : Option Connection). unwrap_or o no_conn) (changed-none s.conns c c x none)
 
--- what remains of one that changes
+-- a connection that changes becomes what remains of its new value
 pub conn-remains : (s : State) (c : ℕ) (x : Connection) → Once s.conns
     → (is_over x ≡ false → conn_at (with_conn s c x) c ≡ x) → conn_at (with_conn s c x) c ≡ remains x
 conn-remains s c x once there = by (is_over x) refl
@@ -133,7 +133,7 @@ conn-remains s c x once there = by (is_over x) refl
     by true over = conn-over s c x once over
     by false over = there over
 
--- one connection changes
+-- a connection that changes has its new value, or is removed
 pub after-with_conn : (s : State) (c : ℕ) (x : Connection) → Once s.conns → (conn_at (with_conn s c x) c ≡ x)
     ⊎ (conn_at (with_conn s c x) c ≡ no_conn)
 after-with_conn s c x once = by (is_over x) refl (lookup s.conns c) refl

@@ -55,7 +55,7 @@ pub domain-numbered : (s : State) (d : ℕ) (x : Domain Text) → 0 < d → d �
 unfolding domain with_domain
 domain-numbered s d x lo hi = grind (arith, nat_tests, common_steps, lo, hi)
 
--- a domain has a number, or no change of it changes the state
+-- either a domain has this number, or setting it changes nothing
 pub in-range : (s : State) (d : ℕ) → ((0 < d) × (d ≤ length s.domains)) ⊎ ((x : Domain Text) → with_domain s d x ≡ s)
 unfolding with_domain
 in-range s d = elim (cases_eq d 0) [
@@ -90,7 +90,7 @@ domain-there : (s : State) (d : ℕ) (x : Domain Text) → (domain (with_domain 
 unfolding domain with_domain
 domain-there s d x = numbered-there s.domains d x no_domain
 
--- reading changes no more of a domain than its descriptors
+-- a read changes only the descriptors of its domain
 pub kept-read_on : {A : Type 0} (f : Domain Text → A)
     → ((y : Domain Text) (xs : List (Option Descriptor)) → f (record y { fds = xs }) ≡ f y)
     → (s : State) (by fd : ℕ) (o : Option Descriptor) (n : ℕ)
@@ -106,7 +106,7 @@ kept-read_on f same s by fd (Some (on.ReadEnd p)) n = ap f (domain-same s _ by (
 kept-read_on f same s by fd (Some (on.Connection c)) n = ap f (domain-same s _ by (domains-with_conn s c _))
 kept-read_on f same s by fd o n = refl
 
--- a domain changes: what is found in it is of the new list
+-- a descriptor that is found after a domain changed is one of the new entry, or of another domain
 pub found-with : (s : State) (d : ℕ) (x : Domain Text) (e f : ℕ) (y : Descriptor)
     → descriptor (with_domain s d x) e f ≡ Some y → ((d ≡ e) × (in_place x.fds f ≡ Some y))
     ⊎ ((d ≢ e) × (descriptor s e f ≡ Some y))

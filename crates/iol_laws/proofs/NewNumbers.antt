@@ -24,7 +24,7 @@ fresh : (s : State) (d b a : ℕ) → IsOrderly s → b ≡ aggs.next_agg s d �
 fresh s d b a order next is = ap (λ k. readable_at s d k) (sym (same-number b a is) ∙ next)
     ∙ ap (λ (o : Option Text). option_map bytes_of o) (order.aggs d (aggs.next_agg s d) (omega arith))
 
--- the number of a new aggregate
+-- the number of an aggregate in a reply is new, unless the call gives something away
 pub fresh_agg : (s t : State) (d : ℕ) (k : Call) (r : Reply) (a : ℕ) → IsOrderly s → StepsTo s (event.Call d k) r t
     → gives_away k ≡ false → is_agg r a ≡ true → readable_at s d a ≡ None
 fresh_agg s t d (call.AggMake bytes) (reply.Agg b) a order step stays is = fresh s d b a order (ap number step.1) is
@@ -39,7 +39,7 @@ fresh_agg s t d (call.GiveFd f to) (reply.Agg b) a order step stays is = absurd 
 fresh_agg s t d k (reply.Agg b) a order step stays is = (let e = step.1 in absurd (cc))
 fresh_agg s t d k r a order step stays is = absurd (cc)
 
--- the number of a new descriptor
+-- the number of a descriptor in a reply is new, unless the call gives something away
 pub fresh_fd : (s t : State) (d : ℕ) (k : Call) (r : Reply) (g : ℕ) → IsOrderly s → StepsTo s (event.Call d k) r t
     → gives_away k ≡ false → is_fd r g ≡ true → descriptor s d g ≡ None
 fresh_fd s t d call.Accept (reply.Fd b) g order step stays is =
@@ -63,7 +63,7 @@ named_new s t d b a kept x live none same next is = (
       ∙ readable-made s t d kept x live none same,
 )
 
--- and what it names is there
+-- the number of an aggregate in a reply names one, with the same exception
 pub named_agg : (s t : State) (d : ℕ) (k : Call) (r : Reply) (a : ℕ) → IsOrderly s → StepsTo s (event.Call d k) r t
     → gives_away k ≡ false → is_agg r a ≡ true → (bytes : List ℕ) × (readable_at t d a ≡ Some bytes)
 named_agg s t d (call.AggMake bytes) (reply.Agg b) a order step stays is =

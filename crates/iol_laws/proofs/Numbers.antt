@@ -29,7 +29,7 @@ text-of s d a bytes is = by (aggregate s d a) refl
     by (Some t) some = ap (λ (x : Option Text). bytes_of (unwrap_or x [])) some
         ∙ ap (λ (x : Option (List ℕ)). unwrap_or x []) (sym (ap (λ (x : Option Text). option_map bytes_of x) some) ∙ is)
 
--- so there is one
+-- a number whose bytes are known names an aggregate
 pub agg-there : (s : State) (d a : ℕ) (bytes : List ℕ) → readable_at s d a ≡ Some bytes
     → is_none (aggregate s d a) ≡ false
 agg-there s d a bytes has = by (aggregate s d a) refl
@@ -52,7 +52,7 @@ readable-made s t d kept x live none same =
     ap (λ (u : State). readable_at u d (aggs.next_agg s d)) same
     ∙ ap (λ (o : Option Text). option_map bytes_of o) (new_agg s d kept x live none)
 
--- the same after a change that leaves the domain as it was
+-- the same after a change that leaves the domain unchanged
 pub got-agg : (s mid t : State) (d a : ℕ) (x : Text) → lookup (domain s d).aggs (aggs.next_agg s d) ≡ None
     → domain mid d ≡ domain s d → is_live s d ≡ true → a ≡ aggs.next_agg s d → t ≡ aggs.with_agg mid d x
     → (readable_at t d a ≡ Some (bytes_of x)) × (readable_at s d a ≡ None)
@@ -65,7 +65,7 @@ got-agg s mid t d a x none same live is made =
       ap (λ k. readable_at s d k) is ∙ ap (λ (o : Option Text). option_map bytes_of o) none,
     )
 
--- a new descriptor is open under the lowest number
+-- a new descriptor is open under the lowest free number
 pub new-fd : (s : State) (d : ℕ) (x : Descriptor) → is_live s d ≡ true
     → descriptor (fds.opened s d x) d (fds.next_fd s d) ≡ Some x
 new-fd s d x live = ap (λ (y : Domain Text). in_place y.fds (fds.next_fd s d)) (domain-with_same s d _ live)

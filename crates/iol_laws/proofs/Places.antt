@@ -85,7 +85,7 @@ changed-none (e ∷ es) n m x none =
       ]
     ]
 
--- In places.
+-- Lists with free indices.
 
 pub placed-cons : {A : Type 0} (y : A) (xs : List (Option A)) (x : A)
     → placed (Some y ∷ xs) (lowest (Some y ∷ xs)) x ≡ Some y ∷ placed xs (lowest xs) x
@@ -99,7 +99,7 @@ placed-cons y xs x =
 pub placed-none : {A : Type 0} (xs : List (Option A)) (x : A) → placed (None ∷ xs) (lowest (None ∷ xs)) x ≡ Some x ∷ xs
 placed-none xs x = grind (arith, nat_tests, common_steps)
 
--- what was there is there
+-- an element keeps its index when another one is placed
 pub place-placed : {A : Type 0} (xs : List (Option A)) (x : A) (m : ℕ) (y : A) → in_place xs m ≡ Some y
     → in_place (placed xs (lowest xs) x) m ≡ Some y
 place-placed [] x m y is = absurd (cc)
@@ -108,7 +108,7 @@ place-placed (None ∷ xs) x (suc m) y is = rw (placed-none xs x) is
 place-placed (Some z ∷ xs) x zero y is = rw (placed-cons z xs x) is
 place-placed (Some z ∷ xs) x (suc m) y is = rw (placed-cons z xs x) (place-placed xs x m y is)
 
--- and the new one in the place that was free
+-- the new element is at the index that was the lowest free one
 pub place-new : {A : Type 0} (xs : List (Option A)) (x : A) → in_place (placed xs (lowest xs) x) (lowest xs) ≡ Some x
 place-new [] x = refl
 place-new (None ∷ xs) x = rw (placed-none xs x) refl
@@ -116,7 +116,7 @@ place-new (Some z ∷ xs) x =
     let e : lowest (Some z ∷ xs) ≡ suc (lowest xs) = grind (arith, nat_tests, common_steps) in
     rw (placed-cons z xs x, e) (place-new xs x)
 
--- and no other
+-- each element after that is the new one, or was there before
 pub place-old : {A : Type 0} (xs : List (Option A)) (x : A) (m : ℕ) (y : A)
     → in_place (placed xs (lowest xs) x) m ≡ Some y → ((m ≡ lowest xs) × (y ≡ x)) ⊎ (in_place xs m ≡ Some y)
 place-old [] x zero y is = inl (refl, grind (arith, is))
@@ -137,7 +137,7 @@ place-old {A = A} (Some z ∷ xs) x (suc m) y is =
       | inr h ↦ inr h
     ]
 
--- a place that was freed is free
+-- an index that is freed is free
 pub place-set_free : {A : Type 0} (xs : List (Option A)) (n : ℕ) → in_place (slice_set xs n None) n ≡ None
 place-set_free [] n = refl
 place-set_free (z ∷ xs) zero = refl
@@ -169,7 +169,7 @@ place-placed_other (Some z ∷ xs) (suc m) x differ =
     let e : lowest (Some z ∷ xs) ≡ suc (lowest xs) = grind (arith, nat_tests, common_steps) in
     rw (placed-cons z xs x) (place-placed_other xs m x (λ same. differ (e ∙ ap suc same)))
 
--- the lowest place is free
+-- the lowest free index is free
 pub lowest-free : {A : Type 0} (xs : List (Option A)) → in_place xs (lowest xs) ≡ None
 lowest-free [] = refl
 lowest-free (None ∷ xs) = refl
@@ -177,7 +177,7 @@ lowest-free {A = A} (Some x ∷ xs) =
     (let e : lowest (Some x ∷ xs) ≡ suc (lowest xs) = grind (arith, nat_tests, common_steps) in
     ap (λ n. in_place (Some x ∷ xs) n) e ∙ lowest-free xs)
 
--- under a number that there is
+-- the element under an existing number, after it is set
 pub numbered-set : {A : Type 0} (xs : List A) (n : ℕ) (x z : A) → is_numbered xs n ≡ true
     → numbered_or (with_numbered xs n x) n z ≡ x
 numbered-set xs n x z is = grind (arith, nat_tests, common_steps, is)

@@ -6,7 +6,7 @@ use Rattle.iol_core.specs.Run.{StepsTo, Run}
 use Rattle.iol_core.specs.declared.events.Event.{Event}
 use Rattle.iol_core.specs.declared.events.Reply.{Reply}
 
--- what each step keeps a run keeps
+-- an invariant of each step is an invariant of a run
 pub run_keeps : (P : State → Type 0) → ((s t : State) (e : Event) (r : Reply) → P s → StepsTo s e r t → P t)
     → (s t : State) (es : List Event) (rs : List Reply) → P s → Run s es rs t → P t
 run_keeps P step s t [] [] has run = subst (λ (m : State). P m) (sym run) has
@@ -14,14 +14,14 @@ run_keeps P step s t (e ∷ es) (r ∷ rs) has run = run_keeps P step run.0 t es
 run_keeps P step s t [] (r ∷ rs) has run = absurd run
 run_keeps P step s t (e ∷ es) [] has run = absurd run
 
--- each event has its reply
+-- a run has as many replies as events
 pub run-even : (s t : State) (es : List Event) (rs : List Reply) → Run s es rs t → length es ≡ length rs
 run-even s t [] [] run = refl
 run-even s t (e ∷ es) (r ∷ rs) run = (let rest = run-even run.0 t es rs run.2 in omega (arith, rest))
 run-even s t [] (r ∷ rs) run = absurd run
 run-even s t (e ∷ es) [] run = absurd run
 
--- what each of a list tells with its reply, one after another
+-- `all` gives the results of `one` for each element of a list with its reply, in order
 pub record Reports {A : Type 0} (one : A → Reply → List ℕ) (all : List A → List Reply → List ℕ) : Type 0 where
   pub none : all [] [] ≡ []
   pub next : (x : A) (r : Reply) (xs : List A) (rs : List Reply) → all (x ∷ xs) (r ∷ rs) ≡ one x r ++ all xs rs

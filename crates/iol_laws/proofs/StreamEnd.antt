@@ -11,7 +11,7 @@ use Rattle.std.proofs.lemmas.List.Sums.{take_while-cons}
 use Rattle.iol_core.specs.declared.refusals.Refusal.TheVariants.{Denied}
 use Rattle.iol_core.proofs.TestedLists.{list_all-barred}
 
--- the first byte may be read, or there is none
+-- if the first byte is not denied and no byte is taken, the queue is empty
 pub none-admitted : (may : ℕ → Bool) (n : ℕ) (q : Text) → 0 < n
     → option_map Denied (barred may (take (min n 1) q)) ≡ None → admitted may (take n q) ≡ [] → q ≡ []
 none-admitted may n [] some free none = refl

@@ -7,7 +7,7 @@ use Rattle.std.proofs.lemmas.Grind.{common_steps}
 pub apart : (e c : ℕ) → (e == c) ≡ false → e ≢ c
 apart e c un same = grind (arith, nat_tests, un, same)
 
--- the first of two tests that fail together, and the second
+-- the first and the second part of a false disjunction
 pub left-false : (a b : Bool) → (a || b) ≡ false → a ≡ false
 left-false a b un = grind (arith, un)
 
@@ -49,6 +49,6 @@ either false b is = inr is
 pub itself : (n : ℕ) → (n == n) ≡ true
 itself n = grind (arith, nat_tests)
 
--- a pair that differs, and not in its first part
+-- two pairs that differ, and whose first parts are equal, differ in the second
 pub differs : (a b c d : ℕ) → ((a == b) && (c == d)) ≡ false → a ≡ b → c ≢ d
 differs a b c d un same equal = grind (arith, nat_tests, common_steps, un, same, equal)

@@ -31,7 +31,7 @@ prefix-rest (suc m) zero q = refl
 prefix-rest (suc m) (suc n) [] = refl
 prefix-rest (suc m) (suc n) (x ∷ q) = ap (λ (l : Text). x ∷ l) (prefix-rest m n q)
 
--- the longest prefix that may be seen, and the rest
+-- a queue is the longest prefix of its first n bytes that may be read, followed by the rest
 pub admitted-rest : (may : ℕ → Bool) (n : ℕ) (q : Text)
     → q ≡ admitted may (take n q) ++ drop (length (admitted may (take n q))) q
 admitted-rest may n q = prefix-rest (prefix_len (λ x. may x.1) (take n q)) n q

@@ -78,7 +78,7 @@ WritesConn s c bytes (reply.Refused x) t = t ≡ s
 WritesConn s c bytes r t = ⊥
 
 -- the first bytes of a pipe, at most count, are taken as aggregate n; if count is positive and no byte is taken, the
--- pipe has no writer any more
+-- pipe has no writer
 pub record TakesFromPipe (s : State) (d p count n : ℕ) (t : State) : Type 0 where
   pub text : Text
   pub rest : Text

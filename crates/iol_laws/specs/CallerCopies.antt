@@ -51,7 +51,7 @@ CopiesConn s d c count (reply.Bytes found) t = ReportsConn s d c count found t
 CopiesConn s d c count (reply.Refused x) t = t ≡ s
 CopiesConn s d c count r t = ⊥
 
--- the same for a pipe; if count is positive and there are none, the pipe has no writer any more
+-- the same for a pipe; if count is positive and there are none, the pipe has no writer
 pub record ReportsPipe (s : State) (d p count : ℕ) (found : List ℕ) (t : State) : Type 0 where
   pub text : Text
   pub rest : Text

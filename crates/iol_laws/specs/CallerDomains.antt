@@ -25,7 +25,7 @@ MakesDomain s (reply.Domain n) t = StartsDomain s n t
 MakesDomain s (reply.Refused x) t = IsTrue (is_resource_failure (reply.Refused x)) × (t ≡ s)
 MakesDomain s r t = ⊥
 
--- The domain has nothing any more, and each of its descriptors is closed as by `close`. Queued output of a connection
+-- The domain has nothing, and each of its descriptors is closed as by `close`. Queued output of a connection
 -- remains. The bytes of a pipe remain, unless the domain had the read end.
 pub record EndsDomain (s : State) (d : ℕ) (t : State) : Type 0 where
   pub nothing : domain t d ≡ no_domain

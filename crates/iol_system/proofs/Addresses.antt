@@ -23,7 +23,7 @@ use Rattle.iol_system.specs.Promises.{Chain}
 use Rattle.iol_system.proofs.Chains.{chain_stays, neither}
 use Rattle.iol_system.proofs.HeldPlaces.{laid, numbers}
 
--- one aggregate over a run
+-- an aggregate that no event of a run gives up keeps the places of its bytes
 place_kept : (old new : SystemState) (es : List Event) (rs : List Reply) (d a : ℕ) (t : Text)
     → aggregate (layout_of old.kernel) d a ≡ Some t → list_any (λ e. gives_up e d a) es ≡ false → Chain old es rs new
     → aggregate (layout_of new.kernel) d a ≡ Some t
@@ -38,7 +38,7 @@ place_kept old new (e ∷ es) [] d a t is kept chain = absurd chain
 pub chain_places : RunsKeepPlaces
 chain_places old new es rs chain = record { each = λ d a t is kept. place_kept old new es rs d a t is kept chain }
 
--- what is read of slices that there are
+-- slices that have a text in one reading have one in the reading by places
 read_else : (f : Reading) (o : Option (List Slice)) (t : Text) → option_map (read f) o ≡ Some t
     → option_map (read numbers) o ≡ Some (read numbers (unwrap_or o []))
 read_else f None t is = absurd (cc)

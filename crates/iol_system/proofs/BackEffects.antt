@@ -1,4 +1,4 @@
--- What an event does that writes back, forgets what the store has, makes a pool, or sends.
+-- The effect of events that write back, drop clean extents, create a pool, or send.
 use Rattle.std.proofs.Common.{◌≡◌, ℕ, ◌<◌, ◌≤◌, Bool, List, [], ◌∷◌, length, true, false, refl, ap, sym, subst, inl}
 use Rattle.std.proofs.Common.{inr}
 use Rattle.std.proofs.lemmas.Bool.{true≢false}
@@ -52,7 +52,7 @@ use Rattle.iol_system.proofs.InPlace.{syncs_in_place}
 use Rattle.iol_system.proofs.WriteBack.{drops_back, flushes_back, none_back, syncs_back}
 use Rattle.iol_system.proofs.ResultReported.{ok_reported, lacks_reported, counts_reported, early_fault_in, early_fault}
 
--- Writing back, and forgetting what the store has: an event that is done, whose tests are these.
+-- An event that writes back or drops clean extents, by its tests: `fsync`, `flush` or `drop_clean`.
 pub record IsBack (e : Event) (old : KernelState) : Type 0 where
   pub uses : (s : State) → uses_cache s e ≡ true
   pub unshared : (s : State) → is_sharing s e ≡ false
@@ -288,7 +288,7 @@ module _ (by chunks : ℕ) (list : List ℕ) (disk : Disk) (old new : KernelStat
         store = never refl;
       })
 
--- What is sent.
+-- Sending.
 module _ (conn max : ℕ) (disk : Disk) (old new : KernelState) where
   abbrev send_event : Event
   send_event = event.Transmit conn max

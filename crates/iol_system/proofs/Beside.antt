@@ -1,4 +1,4 @@
--- What holds whatever the bytes of files are: access, and the values of aggregates.
+-- Properties that do not depend on the bytes of files: access, and the values of aggregates.
 use Rattle.std.proofs.Common.{◌≡◌, ◌∙◌, ℕ, List, [], refl, sym, ap}
 use Rattle.iol_core.specs.Access.{HasAccess}
 use Rattle.iol_core.specs.Run.{meaning, outcome}
@@ -17,7 +17,7 @@ use Rattle.iol_kernel.specs.KernelState as held
 use Rattle.iol_kernel.specs.KernelState.{KernelState, read_of}
 use Rattle.iol_kernel.specs.Views.{state_view}
 
--- all but the slots are the same over each store
+-- the fields other than the slots are the same over each store
 
 pub domains-slots : (slots stored : List (List ℕ)) (h : KernelState)
     → (with_slots slots h).domains ≡ (held.machine_of stored h).domains
@@ -34,7 +34,7 @@ pub files-slots : (slots stored : List (List ℕ)) (h : KernelState)
 unfolding with_slots read_of state_view
 files-slots slots stored h = refl
 
--- the state over a store is one with slots
+-- the machine's state over a store is that with the slots of the store
 pub with_slots-machine : (stored : List (List ℕ)) (h : KernelState)
     → with_slots (held.machine_of stored h).slots h ≡ held.machine_of stored h
 unfolding with_slots read_of state_view
@@ -52,7 +52,7 @@ access_from slots stored h access =
     access_same (with_slots slots h) (held.machine_of stored h) access (sym (domains-slots slots stored h))
     (sym (pools-slots slots stored h)) (sym (files-slots slots stored h))
 
--- what a domain may read over one store it may over each
+-- if domains may read all their bytes over one store, they may do so over each
 pub access_over : (stored other : List (List ℕ)) (h : KernelState) → HasAccess (held.machine_of stored h)
     → HasAccess (held.machine_of other h)
 access_over stored other h access = access_from [] other h (access_to [] stored h access)
@@ -63,7 +63,7 @@ aggregate-slots slots stored h d a =
     ap (λ (x : Domain Text). lookup x.aggs a)
     (domain-same (held.machine_of stored h) (with_slots slots h) d (domains-slots slots stored h))
 
--- after a step that is the machine's but for the bytes of files
+-- after a step that is the machine's except for the bytes of files
 module _ (old new : KernelState) (e : Event) (r : Reply) (stored after : List (List ℕ))
     (beside : StepsBeside (λ s. meaning s e) old (outcome r) new) where
   pub access_beside : HasAccess (held.machine_of stored old) → HasAccess (held.machine_of after new)

@@ -1,4 +1,4 @@
--- Chains: how they grow by a step, come apart, and what they give.
+-- Chains of steps: how they are extended and divided, and their consequences.
 use Rattle.std.proofs.Common.{◌≡◌, ◌∙◌, true, false, Some, ℕ, ◌+◌, ◌<◌, List, [], ◌∷◌, ◌++◌, length, take, get_or, refl}
 use Rattle.std.proofs.Common.{sym, ap, subst}
 use Rattle.std.proofs.lemmas.List.{take_more}
@@ -20,7 +20,7 @@ use Rattle.iol_system.specs.Safe.{IsSafe}
 use Rattle.iol_system.specs.Laws.{RunsAsTheMachine, Between, RunsInParts, Moment, EachEventIsAStep, RunsStaySafe}
 use Rattle.iol_system.specs.Laws.{RunsKeepHonesty, RunsKeepBuffers, RunsKeepValues, SharesOver, RunsShare}
 
--- one step more
+-- a chain is extended by one step
 Chain-push : (old mid new : SystemState) (es : List Event) (rs : List Reply) (e : Event) (r : Reply)
     → Chain old es rs mid → Promises mid e r new → Chain old (es ++ e ∷ []) (rs ++ r ∷ []) new
 Chain-push old mid new [] [] e r chain step = (new, subst (λ (s : SystemState). Promises s e r new) chain step, refl)
@@ -63,7 +63,7 @@ chain_parts old new (e ∷ past) future (r ∷ rs) chain =
     }
 chain_parts old new (e ∷ past) future [] chain = absurd chain
 
--- the first event of a run, and the rest
+-- the first event of a chain, and the rest of it
 chain_first : (old new before : SystemState) (past : List Event) (e : Event) (future : List Event)
     (rs past_replies future_replies : List Reply) → rs ≡ past_replies ++ future_replies
     → Chain old past past_replies before → Chain before (e ∷ future) future_replies new

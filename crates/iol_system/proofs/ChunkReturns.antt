@@ -63,7 +63,7 @@ room_then : (pool n : ℕ) (h k : KernelState) (t : Stored) → MakesRoom pool n
     → KeepsChunks h.store t
 room_then pool n h k t x y = and_then h.store k.store t x.gives_up.lists (room_made pool n h k x) y
 
--- What done events do.
+-- The effect of events that succeed.
 
 made : (put : State → Text → State) (w : Wants) (h k : KernelState) → Makes put w h k → KeepsChunks h.store k.store
 made put w h k x = room_then w.pool _ h x.roomy k.store x.room (by_pages x.then.pages)
@@ -95,7 +95,7 @@ event_done h (event.Call by c) k x = call_done h by c k x
 event_done h (event.Arrive c bytes) k x = made _ (for_arrived h c bytes) h k x
 event_done h e k x = by_pages x
 
--- What late refusals leave.
+-- The state after late refusals.
 
 same_store : (h k : KernelState) → k ≡ h → KeepsChunks h.store k.store
 same_store h k is = nothing_changed h.store k.store (ap (λ (x : KernelState). x.store) is)

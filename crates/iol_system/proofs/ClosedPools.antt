@@ -1,4 +1,4 @@
--- A closed pool keeps chunks only where a buffer that is held lies in them.
+-- A closed pool has returned its chunks, or a buffer in them is still held.
 use Rattle.std.proofs.Common.{inl, inr, ◌≡◌, ◌∙◌, ℕ, ◌*◌, ◌/◌, Bool, true, false, List, [], ◌∷◌, ap, arith, refl, sym}
 use Rattle.std.proofs.Common.{subst}
 use Rattle.std.specs.Prelude.{◌&&◌}
@@ -12,7 +12,7 @@ use Rattle.iol_pool.specs.Pools.{pool_in}
 use Rattle.iol_hold.specs.StoreState.{Stored, IsInBuffer, IsPlaced, IsStill, IsTidy, IsReclaimed}
 use Rattle.iol_system.specs.Laws.{ClosedPoolsGiveBack, HasGivenBack}
 
--- one of which a test fails
+-- if a test fails for a list, it fails for an element
 some-fails : (f : ℕ → Bool) (xs : List ℕ) → list_all f xs ≡ false → (x : ℕ) × In xs x × (f x ≡ false)
 some-fails f [] is = absurd (cc)
 some-fails f (x ∷ xs) is = by (f x) refl (some-fails f xs)
@@ -30,7 +30,7 @@ in-buffer s q still used (inl free) = absurd (let e = ap kind_free free in cc (e
 in-buffer s q still used (inr (inl pending)) = absurd (still.each q pending)
 in-buffer s q still used (inr (inr there)) = there
 
--- and that lies in the page's chunk
+-- a buffer on a page is in the chunk of the page
 in-chunk : (s : Stored) (q : ℕ) (b : BufId) → IsTidy s → IsLive s.arena b → LiesOn s.arena b q → q / 16 ≡ b.page / 16
 in-chunk s q b tidy live on =
     let run = tidy.runs.each b.page (kind_len (entry_at s.arena b.page).kind) live.head in

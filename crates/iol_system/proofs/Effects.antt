@@ -1,4 +1,4 @@
--- What an event does, by what the kernel says of its call.
+-- The effect of an event, from the kernel's contract for its call.
 use Rattle.std.proofs.Common.{◌≡◌, ◌∙◌, ℕ, Bool, List, [], true, false, ap, refl, subst, sym}
 use Rattle.std.proofs.lemmas.Bool.{true≢false}
 use Rattle.std.specs.Prelude.{Result, Ok, Err, OnErr, OnOk}
@@ -51,11 +51,11 @@ use Rattle.iol_system.proofs.ReplyAnswers.{Means, Reports, done, early_reported,
 use Rattle.iol_system.proofs.ReplyAnswers.{reported_beside}
 use Rattle.iol_system.proofs.WriteBack.{none_back, writes_back}
 
--- a test that fails does not hold
+-- a test that is false is not true
 pub never : {X : Type 0} {b : Bool} → b ≡ false → b ≡ true → X
 never fails is = absurd (true≢false (sym is ∙ fails))
 
--- What an event does, in five parts: the machine's step,
+-- The effect of an event has five parts. The first is the machine's step, and the invariants.
 pub record Goes (disk : Disk) (old : KernelState) (e : Event) (r : Reply) (after : Disk) (new : KernelState) :
     Type 0 where
   pub step : IsBackedBy disk old → ArePlaced (machine_of disk.slots old)
@@ -66,14 +66,14 @@ pub record Goes (disk : Disk) (old : KernelState) (e : Event) (r : Reply) (after
   pub sound : IsSound new
   pub stays : Stays old.store new.store
 
--- what it asks of the store,
+-- The second is the calls to the store, and its faults.
 pub record Asks (disk : Disk) (old : KernelState) (e : Event) (r : Reply) (after : Disk) : Type 0 where
   pub unasked : asks_store (tables_of old) e ≡ false → after ≡ disk
   pub faults : asks_store (tables_of old) e ≡ true → FaultCounts disk after (outcome r)
   pub slots : IfHonest disk (writes_store e ≡ false → after.slots ≡ disk.slots)
   pub asked : asks_store (tables_of old) e ≡ true → IsFault r → HasRoomFor (system_of old disk) e
 
--- where it has room, and what a refusal leaves,
+-- The third is when there is room, and the state after a refusal.
 pub record Refuses (disk : Disk) (old : KernelState) (e : Event) (r : Reply) (after : Disk) (new : KernelState) :
     Type 0 where
   pub room : IsDone r → HasRoomFor (system_of old disk) e
@@ -83,7 +83,7 @@ pub record Refuses (disk : Disk) (old : KernelState) (e : Event) (r : Reply) (af
   pub refused : uses_cache (tables_of old) e ≡ false → IsRefused r → new ≡ old
   pub late : LeavesLate (system_of old disk) e r (system_of new after)
 
--- what becomes of files, pages and pools,
+-- The fourth is the changes of files, pages and pools.
 pub record Alters (disk : Disk) (old : KernelState) (e : Event) (r : Reply) (after : Disk) (new : KernelState) :
     Type 0 where
   pub uncached : uses_cache (tables_of old) e ≡ false → makes_file e ≡ false → new.cache ≡ old.cache
@@ -95,7 +95,7 @@ pub record Alters (disk : Disk) (old : KernelState) (e : Event) (r : Reply) (aft
   pub sums : Remembers old e r new
   pub written_back : WritesBack disk old e r after new
 
--- and what lies where it lay.
+-- The fifth is the bytes that keep their places.
 pub record Lies (disk : Disk) (old : KernelState) (e : Event) (r : Reply) (after : Disk) (new : KernelState) :
     Type 0 where
   pub looks : only_looks e ≡ true → (new ≡ old) × (after ≡ disk)
@@ -145,7 +145,7 @@ does_of ends goes asks refuses alters lies = record {
   stays = goes.stays;
 }
 
--- by what the call means
+-- the first part, from the meaning of the call and the state that the kernel reaches
 pub served : {A : Type 0} (f : A → Reply) {m : State → Meaning A} {e : Event} {disk after : Disk}
     {old new : KernelState} {r : Result A Refusal} → Means f m e → Serves m disk old r after new
     → Goes disk old e (reported f r) after new
@@ -158,12 +158,12 @@ served f {m} {e} {disk} {after} {old} {new} {r} means serves = record {
   stays = serves.stays;
 }
 
--- the store is not asked
+-- the second part, if the store is not asked
 pub asks_none : {disk : Disk} {old : KernelState} {e : Event} {r : Reply} → asks_store (tables_of old) e ≡ false
     → Asks disk old e r disk
 asks_none none = record { unasked = λ not'. refl; faults = never none; slots = λ honest back. refl; asked = never none }
 
--- no place is handed on
+-- the fifth part, for an event that is neither a sharing call nor one that leaves all bytes in place
 pub lies_apart : {disk after : Disk} {old new : KernelState} {e : Event} {r : Reply}
     → is_sharing (tables_of old) e ≡ false → is_still e ≡ false → (only_looks e ≡ true → (new ≡ old) × (after ≡ disk))
     → (takes_out (tables_of old) e ≡ true → IsDone r → layout_of new ≡ (meaning (layout_of old) e).after)
@@ -180,12 +180,12 @@ lies_apart unshared moving looks places store held =
       store = store;
     }
 
--- a call that keeps places takes the step of the layout, too
+-- a call that keeps places is a step of the layout, too
 pub kept_layout : {A : Type 0} (m : State → Meaning A) (old new : KernelState) (r : Result A Refusal)
     → KeepsPlaces m old r new → Step (m (layout_of old)) (layout_of old) r (layout_of new)
 kept_layout m old new r c = c.places (record { at = number_at; stored = [] }) keeps_numbers
 
--- what may change the store does more than look
+-- a call that may change pages does not only look
 call_unlooking : (by : ℕ) (k : Call) → keeps_store (event.Call by k) ≡ false → only_looks (event.Call by k) ≡ false
 call_unlooking by (call.Show a) changes = changes
 call_unlooking by (call.Length fd) changes = changes
@@ -195,12 +195,12 @@ pub unlooking_of : (e : Event) → keeps_store e ≡ false → only_looks e ≡ 
 unlooking_of (event.Call by k) changes = call_unlooking by k changes
 unlooking_of e changes = refl
 
--- a step that is done goes on to the state after it
+-- a step that succeeds ends in the state after it
 done_after : (m : Meaning Reply) (s t : State) (x : Reply) → Step m s (outcome x) t → IsDone x → t ≡ m.after
 done_after m s t (reply.Refused y) step is = absurd is
 done_after m s t x step is = step.2
 
--- the bytes that an answer leaves lie where they lay
+-- a call that succeeds changes the layout as the machine says
 pub answer_lies : {A : Type 0} (f : A → Reply) (m : State → Meaning A) (e : Event) (old new : KernelState)
     (r : Result A Refusal) → ((s : State) → (meaning s e).after ≡ (m s).after)
     → OnOk r ((g : Reading) → KeepsPools g → read_of g new ≡ (m (read_of g old)).after) → IsDone (reported f r)
@@ -209,7 +209,7 @@ answer_lies f m e old new (Ok a) same places is = places (record { at = number_a
     ∙ sym (same (layout_of old))
 answer_lies f m e old new (Err x) same places is = absurd is
 
--- An event that wants no room and makes no buffer, and that neither asks the store nor works on the cache.
+-- An event that needs no room, makes no buffer, writes nothing back and does not ask the store.
 pub record IsPlain (e : Event) : Type 0 where
   pub unwritten : writes_back e ≡ false
   pub unlent : shares_file e ≡ false
@@ -270,7 +270,7 @@ plain_of e is = record {
   late = λ o x n. tt;
 }
 
--- An event as the reply of a call that means it: which reply it is, and what it tells of a file's end and makes.
+-- A plain event, carried out by a call of this meaning, whose reply reports a file's end and what it creates.
 module _ {A : Type 0} (f : A → Reply) (m : State → Meaning A) {e : Event} {disk : Disk} {old new : KernelState}
     {r : Result A Refusal} (reports : Reports f) (is : is_plain e ≡ true) (means : Means f m e)
     (ends : ReportsEnd (system_of old disk) e (reported f r)) (creates : Creates old e (reported f r) new) where
@@ -301,7 +301,7 @@ module _ {A : Type 0} (f : A → Reply) (m : State → Meaning A) {e : Event} {d
         written_back = none_back disk old (reported f r) disk new e plain.unwritten;
       }) lies
 
-  -- a call that carries out
+  -- a call that carries out its meaning
   pub carried_does : (new.sums ≡ old.sums → Remembers old e (reported f r) new) → keeps_store e ≡ false → IsSound old
       → CarriesOut m old r new → Does disk old e (reported f r) disk new
   carried_does sums changes sound c =
@@ -318,7 +318,7 @@ module _ {A : Type 0} (f : A → Reply) (m : State → Meaning A) {e : Event} {d
         store = never changes;
       })
 
-  -- one that keeps places
+  -- a call that keeps places
   pub kept_does : (new.sums ≡ old.sums → Remembers old e (reported f r) new) → ((s : State) → is_sharing s e ≡ false)
       → keeps_store e ≡ false → IsSound old → KeepsPlaces m old r new → ((p : ℕ) → r ≡ Err (NoRoom p) → ⊥)
       → Does disk old e (reported f r) disk new
@@ -336,7 +336,7 @@ module _ {A : Type 0} (f : A → Reply) (m : State → Meaning A) {e : Event} {d
         store = never changes;
       })
 
-  -- one that asks the store for a length
+  -- a call that asks the store for a length
   pub looks_does : (new.sums ≡ old.sums → Remembers old e (reported f r) new) → ((s : State) → is_sharing s e ≡ false)
       → is_still e ≡ false → ((s : State) → (meaning s e).after ≡ (m s).after)
       → ((s : State) → KeepsValues s (m s).after nothing) → (only_looks e ≡ true → new ≡ old) → LooksUp m disk old r new
@@ -348,7 +348,7 @@ module _ {A : Type 0} (f : A → Reply) (m : State → Meaning A) {e : Event} {d
       (λ out done. answer_lies f m e old new r same c.places done) (λ kept. c.store)
       (after_held m old new r e keeps c.places c.refused))
 
-  -- one that makes a file
+  -- a call that creates a file
   pub names_does : (new.sums ≡ old.sums → Remembers old e (reported f r) new) → ((s : State) → is_sharing s e ≡ false)
       → ((s : State) → takes_out s e ≡ false) → is_still e ≡ false → only_looks e ≡ false → makes_file e ≡ true
       → Names disk m old r new → Does disk old e (reported f r) disk new
@@ -369,7 +369,7 @@ module _ {A : Type 0} (f : A → Reply) (m : State → Meaning A) {e : Event} {d
       (lies_apart (unshared (tables_of old)) moving (never unlooking) (never (inside (tables_of old)))
       (λ keeps. c.store) (all_held old new e (tables_hold old new (ap (λ (h : KernelState). h.domains) c.same))))
 
--- bytes are shown
+-- the call `show`
 pub shown : (by a : ℕ) (disk : Disk) (h : KernelState) (r : Result (List ℕ) Refusal) → IsSound h
     → Steps (λ s. aggs.show s by a) h r h → ((p : ℕ) → r ≡ Err (NoRoom p) → ⊥)
     → LooksUp (λ s. aggs.show s by a) disk h r h
@@ -391,7 +391,7 @@ shown by a disk h r sound steps roomy =
     err (Ok bytes) = tt
     err (Err y) = refl
 
--- the event that a reply was for, and the reply that was told
+-- the same effect, for an equal event and an equal reply
 pub as_event : {d e : Event} {disk after : Disk} {old new : KernelState} {x y : Reply} → d ≡ e → y ≡ x
     → Does disk old e x after new → Does disk old d y after new
 as_event {d} {e} {disk} {after} {old} {new} {x} {y} is reports does =
@@ -402,13 +402,13 @@ pub as_call : {by : ℕ} {j k : Call} {disk after : Disk} {old new : KernelState
     → Does disk old (event.Call by k) x after new → Does disk old (event.Call by j) y after new
 as_call {by} is reports does = as_event (ap (λ k. event.Call by k) is) reports does
 
--- the domain that a pool's list names now
+-- what `pool_admit` creates: one more domain in the pool's list
 pub domain_admitted : (by p d : ℕ) (old new : KernelState) (r : Result (Unit {0}) Refusal)
     → OnOk r (new ≡ with_reader old p d) → Creates old (event.Call by (call.PoolAdmit p d)) (reported done r) new
 domain_admitted by p d old new (Ok u) same = same
 domain_admitted by p d old new (Err x) same = tt
 
--- the file that came
+-- what `file_new` creates: one more file
 pub file_created : (disk : Disk) (m : State → Meaning ℕ) (by p : ℕ) (name : List ℕ) (old new : KernelState)
     (r : Result ℕ Refusal) → Names disk m old r new
     → Creates old (event.Call by (call.FileNew name p)) (reported reply.File r) new

@@ -1,4 +1,4 @@
--- A system with nothing in it, over a store.
+-- An empty system, over a store.
 use Rattle.std.proofs.Common.{◌≡◌, ◌∙◌, ℕ, ◌≤◌, true, List, [], ◌∷◌, length, map, refl, ap, sym, subst, arith, inl, inr}
 use Rattle.std.proofs.lemmas.Bool.{cases_eq}
 use Rattle.std.proofs.lemmas.Bool.Decides.{nat_tests}
@@ -16,7 +16,7 @@ use Rattle.iol_extent.specs.Extents.{cover}
 use Rattle.iol_kernel.proofs.State.Slots.{none_there}
 use Rattle.iol_kernel.specs.Readings.{slots_of}
 
--- there are slots enough
+-- there are at least as many slots as there may be files
 pub slots-enough : (stored : List (List ℕ)) → MAX_FILES ≤ length (slots_of stored)
 slots-enough stored = omega (arith, length-map-range_with_len (content stored) 1 MAX_FILES)
 
@@ -32,7 +32,7 @@ file-none : (n : ℕ) → file_in [] n ≡ no_file
 unfolding file_in
 file-none n = elim (cases_eq n 0) [ inl k ↦ grind (arith, nat_tests, k) | inr k ↦ grind (arith, nat_tests, k) ]
 
--- a store has nothing to be told of files that are not there
+-- an honest store backs a kernel without files
 no_files : (h : KernelState) (disk : Disk) → disk.honest ≡ true → (fs : List CachedFile) → fs ≡ h.cache.files → fs ≡ []
     → IsBackedBy disk h
 no_files h disk honest fs same none = record {

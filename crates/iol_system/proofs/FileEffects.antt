@@ -1,4 +1,4 @@
--- What an event does that places bytes, or reads and writes files.
+-- The effect of events that place bytes, or read and write files.
 use Rattle.std.proofs.Common.{◌≡◌, ◌∙◌, ℕ, Bool, List, length, true, false, refl, ap, sym, subst, Option, Some, None}
 use Rattle.std.proofs.lemmas.Bool.{true≢false}
 use Rattle.std.specs.Prelude.{◌⊎◌, Result, Ok, Err, IfErr, OnErr, OnOk, not, if◌then◌else◌}
@@ -134,19 +134,19 @@ module _ {A : Type 0} (f : A → Reply) (m : State → Meaning A) (put : State �
       (never (placing.inside (tables_of old))) (never placing.changes)
       (placed_held m put w.pool w.count old new r e placing.keeps c))
 
--- what a domain that is not live holds is no file
+-- a descriptor that is not of a file is still not of one if its domain is not live
 shared_held : (live : Bool) (o : Option Descriptor) → not (is_file o) ≡ true
     → not (is_file (if live then o else None)) ≡ true
 shared_held true o none = none
 shared_held false o none = refl
 
--- what a late refusal of a read leaves
+-- a late refusal of a read of a file, and the state that it leaves
 abbrev LeftLate : FileRead → Disk → (old new : KernelState) → Refusal → Type 0
 LeftLate x disk old new y = WantOfRoomOrFault (pool_read old x) x.file y
     × RefusesRead x.file x.at x.count disk (holding_of old) (holding_of new) y
 
--- A read, by reference or by copying, that went over these pages: of a file it asks the store, of anything else it
--- changes no file.
+-- A read by reference or by copying, over these pages. On a file it may ask the store; on anything else it changes
+-- neither the store nor the cache.
 module _ {A : Type 0} (by fd n : ℕ) (disk after : Disk) (old new : KernelState) (f : A → Reply) (r : Result A Refusal)
     (e : Event) where
   record ReadsElse : Type 0 where
@@ -199,7 +199,7 @@ module _ {A : Type 0} (by fd n : ℕ) (disk after : Disk) (old new : KernelState
     in_place = λ goes. cache_in_place disk old new e c.cache;
   }
 
-  -- what it does, by what is said of either kind
+  -- the effect of a read, from that on a file and that on anything else
   read_does : (m : State → Meaning A) (o : Option Descriptor) → HasRead o → asks_store (tables_of old) e ≡ is_file o
       → uses_cache (tables_of old) e ≡ is_file o → writes_back e ≡ false
       → (HasRoomToRead (system_of old disk) o n → HasRoomFor (system_of old disk) e)
@@ -458,7 +458,7 @@ module _ (by fd n : ℕ) (disk after : Disk) (old new : KernelState) (r : Result
   copy_fills (Some (on.File g at mode)) c = fills_then_frees c.lists c.reads.pages c.frees
   copy_fills o c = c.0.pages
 
-  -- the bytes that were answered were copied from where they lie
+  -- the bytes that are returned were copied from their places in memory
   copied_of : (g at : ℕ) (mode : Mode) (x : Result (List ℕ) Refusal)
       → CopiesFileAs (file_read by fd g at mode n) disk old x after new → IsDone (reported reply.Bytes x)
       → SharesCopy by fd n (system_of old disk) (Some (on.File g at mode)) (reported reply.Bytes x) new
@@ -511,7 +511,7 @@ module _ (by fd n : ℕ) (disk after : Disk) (old new : KernelState) (r : Result
       (with_tables r (SameTables old over) leaves here c.reads.leaves))
   copy_late o c = tt
 
-  -- over the pages that were filled, before the copies were released
+  -- the pages as they were filled, before the copies were released
   copy_over : (o : Option Descriptor) → CopiesOn by fd n o disk old r after new → Stored
   copy_over (Some (on.File g at mode)) c = c.mid
   copy_over o c = new.store
@@ -540,12 +540,12 @@ module _ (by fd : ℕ) (bytes : List ℕ) (disk : Disk) (old new : KernelState) 
   abbrev put_event : Event
   put_event = event.Call by (call.Write fd bytes)
 
-  -- what is wanted of the pool, by what the descriptor is open on
+  -- the new bytes and their pool, for the object of the descriptor
   abbrev wants : Option Descriptor → Wants
   wants o =
       record { pool = writing.pool_for (tables_of old) by o; count = writing.fitting (tables_of old) o (length bytes) }
 
-  -- to the end of the queue
+  -- the state after these bytes are written by the descriptor
   abbrev put : State → Text → State
   put s t = writing.written s by fd (descriptor s by fd) t
 
@@ -597,7 +597,7 @@ module _ (by fd : ℕ) (bytes : List ℕ) (disk : Disk) (old new : KernelState) 
   put_shares (Some (on.File g at mode)) lays is = ok_reported reply.Count r _ lays.lays is
   put_shares o lays is = tt
 
-  -- the descriptor is open on this
+  -- the object of the descriptor
   abbrev here : Option Descriptor
   here = descriptor (tables_of old) by fd
 

@@ -1,4 +1,4 @@
--- What is told of where a file ends, as the kernel's call says it.
+-- What a reply says of the end of a file, from the contract of the kernel's call.
 use Rattle.std.proofs.Common.{ℕ, List, Option, Some}
 use Rattle.std.specs.Prelude.{Result, Ok, Err, IfOk}
 use Rattle.iol_back.specs.Disk.{Disk}

@@ -39,11 +39,11 @@ use Rattle.iol_desc.specs.Tables.{agg_in, fds_in, with_agg_in, with_fds_in}
 abbrev pub Held : (old new : KernelState) → Event → Type 0
 Held old new e = ValuesStay (layout_of old) e (layout_of new)
 
--- no aggregate is given up
+-- each aggregate keeps its places
 abbrev pub HoldsAll : (old new : KernelState) → Type 0
 HoldsAll old new = KeepsValues (layout_of old) (layout_of new) nothing
 
--- the number of each place
+-- the reading of bytes as the numbers of their places
 abbrev pub numbers : Reading
 numbers = record { at = number_at; stored = [] }
 
@@ -54,7 +54,7 @@ pub step_held : (old new : KernelState) (e : Event) (r : Reply) → StepsTo (lay
     → Held old new e
 step_held old new e r step = values_step (layout_of old) (layout_of new) e r step
 
--- By the domains' tables.
+-- From the tables of the domains.
 
 pub laid : (h : KernelState) (d a : ℕ) → aggregate (layout_of h) d a ≡ option_map (read numbers) (agg_in h.domains d a)
 unfolding read_of
@@ -93,7 +93,7 @@ agg_holds old new by xs is =
     (subst (λ (s : State). KeepsValues (layout_of old) s nothing) (sym (agg_law old by xs))
     (values_with_agg (layout_of old) by (read numbers xs))) (tables_hold mid new is)
 
--- By the state after a call, as the machine says it of places.
+-- From the state after a call, as the machine's meaning gives it for places.
 
 pub after_held : {A : Type 0} (m : State → Meaning A) (old new : KernelState) (r : Result A Refusal) (e : Event)
     → ((s : State) → KeepsValues s (m s).after nothing)
@@ -185,7 +185,7 @@ pub laid_held : {A : Type 0} (f at pool : ℕ) (bytes : List ℕ) (old new : Ker
 laid_held f at pool bytes old new (Ok x) e lays = all_held old new e (laid_holds f at pool bytes old new lays.lays)
 laid_held f at pool bytes old new (Err x) e lays = all_held old new e (unlaid_holds pool bytes old new x lays.leaves)
 
--- What the machine's reads and writes leave of aggregates.
+-- The machine's reads and writes keep the values of aggregates.
 
 pub values_read_on : (s : State) (by fd : ℕ) (from : Option Descriptor) (count : ℕ)
     → KeepsValues s (read_on s by fd from count) nothing

@@ -1,4 +1,4 @@
--- Hits leave L, and raise the entries that are hit alone.
+-- Hits leave L unchanged, and raise only the entries that are hit.
 use Rattle.std.proofs.Common.{inl, inr, ◌≡◌, ◌∙◌, ℕ, ◌<◌, Bool, true, false, cond, List, [], ◌∷◌, length, Option, Some}
 use Rattle.std.proofs.Common.{None, refl, sym, ap, arith, subst}
 use Rattle.std.specs.Prelude.{option_map, unwrap_or, ◌+◌}
@@ -16,7 +16,7 @@ use Rattle.iol_system.specs.Laws.{IsSameOrHit, hit_above}
 abbrev raised_to : (h : ℕ) → Entry → Entry
 raised_to h e = record e { height = h }
 
--- Of one that is hit again, the height is the same.
+-- Two hits of an entry have the effect of one.
 pub hit_then : (low high : ℕ) (a b c : Option Entry) → high ≡ low → IsSameOrHit low a b → IsSameOrHit high b c
     → IsSameOrHit low a c
 hit_then low high a b c is m (inl same) = elim m [ inl was ↦ inl (same ∙ was) | inr hit ↦ inr (same ∙ hit) ]
@@ -30,7 +30,7 @@ hit_then low high a b c is (inr once) (inr hit) =
     twice None = refl
     twice (Some e) = refl
 
--- the entry at a place, where that at the place has another height now
+-- the entry at a key whose height is set
 found_there : (es : List Entry) (f at h : ℕ)
     → entry_at (with_height es f at h) f at ≡ option_map (raised_to h) (entry_at es f at)
 found_there [] f at h = refl
@@ -42,7 +42,7 @@ found_there (e ∷ es) f at h = pick (is_at e f at) refl (found_there es f at h)
     pick true is rest = rw is (rw is refl)
     pick false is rest = rw is (rw is rest)
 
--- and at another place
+-- the entry at another key is unchanged
 found_elsewhere : (es : List Entry) (f at g b h : ℕ) → ((g ≡ f) × (b ≡ at) → ⊥)
     → entry_at (with_height es f at h) g b ≡ entry_at es g b
 found_elsewhere [] f at g b h apart = refl
@@ -86,7 +86,7 @@ one_hit r f at g b = elim (cases_eq g f) [
         ∙ ap (λ (x : Entry). Some (raised_to (r.low + worth x.size x.cost) e)) entry
         ∙ sym (ap (option_map (hit_above r.low)) is))
 
--- what hits of extents of file f that begin at such places make of the order of its pool
+-- the order of a pool after hits of extents of file f, all of which begin at offsets that satisfy At
 pub record AreHit (f : ℕ) (At : ℕ → Type 0) (r s : Ranking) : Type 0 where
   pub low : s.low ≡ r.low
   pub order : (g at : ℕ) → IsSameOrHit r.low (entry_at r.entries g at) (entry_at s.entries g at)
@@ -102,7 +102,7 @@ hit_and_hit f At r s t m n = record {
   others = λ g at other. n.others g at other ∙ m.others g at other;
 }
 
--- the extents over where these spans begin, begin at such places
+-- the extents over the starts of these spans begin at offsets that satisfy At
 abbrev pub BeginAt : (At : ℕ → Type 0) → List Extent → List Span → Type 0
 BeginAt At es [] = Unit {0}
 BeginAt At es (s ∷ ss) = ((e : Extent) → extent_over es s.from ≡ Some e → At e.at) × BeginAt At es ss
@@ -130,7 +130,7 @@ hits_leave r f At es (s ∷ ss) begin =
     one None here = none_hit f At r
     one (Some e) here = dirty e.dirty e.at (here e refl)
 
--- the orders of all pools, where that of one changed, also where there is no such pool
+-- the orders of all pools, if hits change that of pool p, whether or not this pool exists
 pub others_stay : (f : ℕ) (At : ℕ → Type 0) (os : List Ranking) (p : ℕ) (r : Ranking) (q : ℕ)
     → AreHit f At (order_in os p) r → AreHit f At (order_in os q) (order_in (with_order os p r) q)
 others_stay f At os p r q hit = elim (cases_eq q p) [

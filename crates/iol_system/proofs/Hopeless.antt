@@ -1,4 +1,4 @@
--- An event for which there is no room, whatever it is refused for, evicts nothing.
+-- If there is no room for an event, it evicts nothing when it is refused, whatever the refusal.
 use Rattle.std.proofs.Common.{inl, inr, ◌≡◌, ◌⊎◌, ◌+◌, ◌<◌, ℕ, ◌≤◌, arith, true, false, List, Option, Some, length}
 use Rattle.std.proofs.Common.{refl, ap, subst, sym}
 use Rattle.iol_back.specs.Disk.{Disk}
@@ -35,7 +35,7 @@ use Rattle.iol_system.proofs.LackOfRoom.{only_hit, only_reserved, same_cache}
 use Rattle.iol_system.specs.Room.{CallHasRoom, HasRoomFor, HasRoomToRead, HasRoomToWrite, IsRefused}
 use Rattle.iol_system.specs.Wants.{Fits, Wants, for_written}
 
--- By what a refusal leaves, where an event reads some bytes of files.
+-- From the state that a refusal leaves, for an event that reads some bytes of files.
 
 module _ (Read : (f i : ℕ) → Type 0) (h k : KernelState) (x : Refusal) where
   abbrev Kept : Type 0
@@ -78,13 +78,13 @@ module _ (Read : (f i : ℕ) → Type 0) (h k : KernelState) (x : Refusal) where
         | inr kept ↦ inr kept
       ]
 
--- By what a descriptor is open on.
+-- For each object of a descriptor.
 
 module _ (old new : SystemState) (x : Refusal) where
   abbrev Met : ((f i : ℕ) → Type 0) → Type 0 → Type 0
   Met Read has = has ⊎ EvictsNothing Read old.kernel.cache new.kernel.cache
 
-  -- of a read over these pages
+  -- a read of a file, over these pages
   over_met : (by fd n f at : ℕ) (mode : Mode) (mid : Stored)
       → LeavesAtRefusal (file_read by fd f at mode n) old.disk old.kernel new.disk (record new.kernel { store = mid }) x
       → Met (IsInRange (Some (on.File f at mode)) n) (HasRoomToRead old (Some (on.File f at mode)) n)
@@ -141,14 +141,14 @@ pub event_met : (old new : SystemState) (e : Event) (r : Reply) → LeavesLate o
 event_met old new e (reply.Refused x) late unused is = refusal_met old new x e late (λ not'. unused not' tt)
 event_met old new e r late unused is = absurd is
 
--- so the extents of every file stay
+-- so the extents of every file are unchanged, or there is room
 pub extents_met : (old new : SystemState) (e : Event) (r : Reply) → LeavesLate old e r new
     → (uses_cache (tables_of old.kernel) e ≡ false → IsRefused r → new.kernel ≡ old.kernel) → IsRefused r
     → HasRoomFor old e ⊎ SameExtents old.kernel.cache new.kernel.cache
 extents_met old new e r late unused is =
     elim (event_met old new e r late unused is) [ inl has ↦ inl has | inr kept ↦ inr (record { each = kept.extents }) ]
 
--- by what an event promises
+-- from the promises of the event
 pub refused_evicts : RefusedWithoutRoomEvictsNothing
 refused_evicts old new e r x is =
     event_met old new e r x.late (λ unused was. ap (λ (s : SystemState). s.kernel) (x.refused unused was)) is

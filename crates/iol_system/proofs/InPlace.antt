@@ -1,4 +1,4 @@
--- Which bytes of files lie where they lay, by what the kernel says of its call.
+-- The bytes of files that keep their places in an event, from the kernel's contract for its call.
 use Rattle.std.proofs.Common.{inl, inr, ◌≡◌, ◌⊎◌, ◌∙◌, ℕ, zero, suc, ◌+◌, ◌<◌, ◌≤◌, ◌==◌, Bool, true, false, cond, List}
 use Rattle.std.proofs.Common.{[], ◌∷◌, Option, Some, refl, sym, ap, subst}
 use Rattle.std.proofs.lemmas.Bool.{cases_eq, cases_lt, true≢false}
@@ -38,7 +38,7 @@ use Rattle.iol_system.specs.Machine.{SystemState, system_of}
 use Rattle.iol_system.specs.WriteBack.{CleansFirst}
 use Rattle.iol_system.proofs.WriteBack.{cleans_first}
 
--- Whatever the event.
+-- For each event.
 
 call_still : (by : ℕ) (k : Call) (c : Cell) (o : Option Cell) → o ≡ Some c → LiesStill (event.Call by k) c o
 call_still by (call.Fsync fd) c o is = inl is
@@ -95,7 +95,7 @@ module _ (disk : Disk) (old new : KernelState) (e : Event) where
       ];
     }
 
-  -- Bytes are placed once there is room, or not.
+  -- Bytes are placed after room is made, or the call is refused.
   module _ {A : Type 0} (m : State → Meaning A) (put : State → Text → State) (pool n : ℕ) (goes : (p : ℕ) → p ≡ pool
       → LacksPages old pool (pages_for n) → MayLetGo here e p) where
     filled_unless : (r : Result A Refusal) → OnOk r (AfterRoom pool n old (λ roomy. MakesBytes put pool n roomy new))
@@ -218,7 +218,7 @@ pub flushes_in_place : (disk after : Disk) (old new : KernelState) (r : Result (
     → FlushesOne disk old r after new → KeepsInPlace (system_of old disk) event.Flush new
 flushes_in_place disk after old new r sound m = flushed_in_place disk after old new m.flushed sound m.flushes
 
--- dropping what is clean
+-- `drop_clean`
 pub drops_in_place : (disk : Disk) (old new : KernelState) → KeepsDirty old.cache new.cache
     → KeepsInPlace (system_of old disk) event.DropClean new
 drops_in_place disk old new keeps =
@@ -227,7 +227,7 @@ drops_in_place disk old new keeps =
           λ f i c is. elim (keeps.each f i c is) [ inl stays ↦ inl stays | inr clean ↦ inr (inr (clean, tt)) ];
     }
 
--- Other calls than these share nothing of files.
+-- Only these calls share bytes of files.
 
 abbrev pub shares_file : Event → Bool
 shares_file (event.Call by (call.IolRead fd n)) = true

@@ -1,4 +1,4 @@
--- An event that is refused for want of room evicts nothing, and leaves what is held held as often.
+-- An event that is refused for lack of room evicts nothing, and leaves each buffer its count.
 use Rattle.std.proofs.Common.{inl, inr, ◌≡◌, ◌∙◌, ℕ, ◌+◌, ◌<◌, ◌≤◌, false, List, [], ◌∷◌, Option, Some, sum_by, refl}
 use Rattle.std.proofs.Common.{sym, ap, arith, subst}
 use Rattle.iol_core.specs.declared.descriptors.Descriptor.{Descriptor}
@@ -45,7 +45,7 @@ use Rattle.iol_system.proofs.Hits.{AreHit, BeginAt, hit_then, hits_leave, others
 use Rattle.iol_system.specs.Wants.{Wants, for_written}
 use Rattle.iol_system.specs.Room.{CallLacksRoom, LacksRoomFor, LacksRoomToRead, LacksRoomToWrite}
 
--- Of pages: what was freed nothing holds any more, and what is held is held as often.
+-- Each buffer has the same count, and a page that was freed has no buffer that is held.
 pub record HeldAlike (s t : Stored) : Type 0 where
   pub counts : (b : BufId) → count_of t b ≡ count_of s b
   pub frees : FreesOnly s t
@@ -53,7 +53,7 @@ pub record HeldAlike (s t : Stored) : Type 0 where
 same_pages : (s t : Stored) → t ≡ s → HeldAlike s t
 same_pages s t is = subst (HeldAlike s) (sym is) (record { counts = λ b. refl; frees = frees_none s s refl refl refl })
 
--- buffers are held as often, where tables and extents hold what they held
+-- each buffer has the same count if tables and extents have the same buffers
 held_alike : (h k : KernelState) → SameTables h k → held k.cache.files ≡ held h.cache.files → IsSound h → IsSound k
     → (b : BufId) → count_of k.store b ≡ count_of h.store b
 held_alike h k same extents was now b =
@@ -67,7 +67,7 @@ rises : (from to : ℕ) (ss : List Span) → AreInOrder from to ss → from ≤ 
 rises from to [] order = order
 rises from to (s ∷ ss) order = omega (arith, order.0, order.1, rises s.to to ss order.2)
 
--- Of what memory has of files, where an event reads some of their bytes.
+-- Files in memory, for an event that reads some of their bytes.
 
 module _ (Read : (f i : ℕ) → Type 0) where
   pub same_cache : (a b : Cached) → b ≡ a → EvictsNothing Read a b
@@ -78,7 +78,7 @@ module _ (Read : (f i : ℕ) → Type 0) where
     unread = λ p f at un. ap (λ (c : Cached). entry_at (order_in c.orders p).entries f at) is;
   }
 
-  -- Of both, where the kernel is sound before and after.
+  -- Files in memory, and buffers if the kernel is sound before and after.
   abbrev pub LeavesBoth : (h k : KernelState) → Type 0
   LeavesBoth h k = EvictsNothing Read h.cache k.cache × (IsSound h → IsSound k → HeldAlike h.store k.store)
 
@@ -115,7 +115,7 @@ module _ (Read : (f i : ℕ) → Type 0) where
     unread = λ p f at un. y.unread p f at (λ met. un (met_before a b x.extents f at met)) ∙ x.unread p f at un;
   }
 
-  -- the extents that hits of a range are on lie over bytes of it
+  -- the extents that are hit by a read of a range contain bytes of the range
   met_by : (c : Cached) (f from to : ℕ) (ss : List Span) → AreInOrder from to ss
       → ((i : ℕ) → from ≤ i → i < to → Read f i) → BeginAt (IsMet Read c f) (extents_in c.files f) ss
   met_by c f from to [] order read = tt
@@ -148,9 +148,9 @@ module _ (Read : (f i : ℕ) → Type 0) where
           q
           (hits_leave (order_in a.orders p) f (IsMet Read a f) (extents_in a.files f) hits met))
 
-  -- Refusals for want of room, by what they left.
+  -- Refusals for lack of room, from the state that they leave.
 
-  -- a read of a range whose hits were shared, and for whose gaps nothing went
+  -- a refused read of a range, after which only its hits were counted
   pub only_hit : (f from to : ℕ) (old new : Holding) (y : Refusal) → ((i : ℕ) → from ≤ i → i < to → Read f i)
       → (x : GivesBack f from to old new y) → x.undone.full ≡ x.hit → EvictsNothing Read old.cache new.cache
   only_hit f from to old new y read x same =
@@ -160,7 +160,7 @@ module _ (Read : (f i : ℕ) → Type 0) where
       (only_counted f from to a.hits a.reserved x.hit.cache a.tile.hits read a.counted)
       (same_cache x.hit.cache new.cache (x.undone.cache ∙ ap (λ (h : Holding). h.cache) same)))
 
-  -- what a read of a range leaves, whose extents hold what they held
+  -- what a refused read of a range leaves: extents with the same buffers, and each buffer with its count
   abbrev RangeLeft : (old new : Holding) → Type 0
   RangeLeft old new = EvictsNothing Read old.cache new.cache × HeldAlike old.store new.store
       × (held new.cache.files ≡ held old.cache.files)
@@ -195,7 +195,7 @@ module _ (Read : (f i : ℕ) → Type 0) where
       (λ i low high. read i (omega (arith, low, high, range.begins, range.stops)) (omega (arith, high, range.stops)))
       late.1.leaves
 
-  -- a read by copying, which has freed pages since, or none
+  -- a read by copying, after which pages may have been freed
   copy_left : (h k : KernelState) (mid : Stored)
       → RangeLeft (record { store = h.store; cache = h.cache }) (record { store = mid; cache = k.cache })
       → FreesOnly mid k.store → SameTables h k → LeavesBoth h k
@@ -220,7 +220,7 @@ module _ (Read : (f i : ℕ) → Type 0) where
   put_left pool p bytes h k (inl same) = same_kernel h k same
   put_left pool p bytes h k (inr late) = absurd (let e : ◌≡◌ {A = Refusal} (NoRoom p) Memory = late.memory in cc)
 
--- By what a descriptor is open on.
+-- For each object of a descriptor.
 
 module _ (old new : SystemState) (p : ℕ) where
   abbrev Kept : ((f i : ℕ) → Type 0) → Type 0

@@ -1,4 +1,4 @@
--- Where nobody is left nothing holds a buffer: so no buffer is live, and each page is free or retired.
+-- If no domain, connection or extent is left, no buffer is live, and each page is free or retired.
 use Rattle.std.proofs.Common.{inl, inr, suc, ◌≡◌, ◌∙◌, ℕ, List, [], ◌∷◌, ◌++◌, length, ap, refl, sym, arith, Option}
 use Rattle.std.proofs.Common.{Some, None, true, false, Bool}
 use Rattle.std.specs.Prelude.{map, not, nat_lt, option_map, slice_index_or, sum_by, ◌&&◌}
@@ -33,7 +33,7 @@ use Rattle.iol_laws.specs.Order.{IsOrderly}
 use Rattle.iol_laws.proofs.Order.NoneLive.{domain-none, pipe-none}
 use Rattle.iol_system.specs.Laws.{AllPagesComeFree}
 
--- What holds nothing.
+-- Tables that hold no buffer.
 
 none-mapped : {A B : Type 0} (g : A → B) (xs : List A) → map g xs ≡ [] → xs ≡ []
 none-mapped g [] none = refl
@@ -49,7 +49,7 @@ domain_holds_none b g d none =
     ap (λ (es : List (ℕ × List Slice)). sum_by (λ e. uses b e.1) es)
     (none-mapped (λ (e : ℕ × List Slice). (e.0, g e.1)) d.aggs (ap (λ (x : Domain Text). x.aggs) none))
 
--- domains of which nothing is left
+-- domains that are empty
 domains_hold_none : (b : BufId) (g : List Slice → Text) (ds : List (Domain (List Slice)))
     → ((i : ℕ) → slice_index_or (map (domain_view g) ds) i no_domain ≡ no_domain) → sum_by (domain_uses b) ds ≡ 0
 domains_hold_none b g [] none = refl
@@ -61,7 +61,7 @@ domains_hold_none b g (d ∷ ds) none =
       domains_hold_none b g ds (λ i. none (suc i)),
     )
 
--- places without a pipe
+-- a table without pipes
 pipes_hold_none : (b : BufId) (g : List Slice → Text) (ps : List (Option (Pipe (List Slice))))
     → ((p : ℕ) → in_place (map (option_map (pipe_view g)) ps) p ≡ None) → sum_by (pipe_uses b) ps ≡ 0
 pipes_hold_none b g [] none = refl
@@ -75,7 +75,7 @@ conns_hold_none b g es none =
     ap (λ (l : List (ℕ × Conn (List Slice))). sum_by (conn_uses b) l)
     (none-mapped {B = ℕ × machine.Connection} (λ (e : ℕ × Conn (List Slice)). (e.0, conn_view g e.1)) es none)
 
--- files without an extent
+-- files without extents
 files_hold_none : (fs : List CachedFile) → extents_in_all fs ≡ 0 → held fs ≡ []
 unfolding held
 files_hold_none [] none = refl
@@ -87,7 +87,7 @@ files_hold_none (f ∷ fs) none =
     ∙ (ap (λ (es : List Extent). bufs_of (all_parts es) ++ held fs) (none-long f.extents.extents here)
     ∙ files_hold_none fs rest)
 
--- The state that a kernel stands for, table by table.
+-- The machine's state that a kernel represents, table by table.
 
 numbered-next : {A : Type 0} (xs : List A) (i : ℕ) (z : A) → numbered_or xs (suc i) z ≡ slice_index_or xs i z
 numbered-next xs i z = grind (arith, nat_tests)
@@ -106,7 +106,7 @@ conns-read : (f : Reading) (h : KernelState)
 unfolding read_of state_view
 conns-read f h = refl
 
--- nothing holds a buffer
+-- no buffer is held
 held_by_none : (f : Reading) (h : KernelState) (b : BufId) → IsOrderly (read_of f h)
     → ((d : ℕ) → machine.is_live (read_of f h) d ≡ false) → (read_of f h).conns ≡ [] → extents_in_all h.cache.files ≡ 0
     → all_uses h.domains (objects_of h) b ≡ 0
@@ -123,7 +123,7 @@ held_by_none f h b order dead conns extents =
     ∙ tally_none b in
     omega (arith, domains, pipes, queues, files)
 
--- so nothing stands on a page
+-- so each page is free
 page_freed : (s : Stored) → IsTidy s → IsStill s.arena → ((b : BufId) → count_of s b ≡ 0) → (q : ℕ)
     → (entry_at s.arena q).kind ≡ Free
 page_freed s tidy still none q = by (tidy.placed q)

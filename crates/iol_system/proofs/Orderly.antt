@@ -1,4 +1,4 @@
--- A run leaves the machine that a system stands for orderly, over any store.
+-- A run preserves that the machine's state is orderly, over any store.
 use Rattle.std.proofs.Common.{◌≡◌, ℕ, List, [], ◌∷◌, refl, sym, subst}
 use Rattle.iol_core.specs.Run.{meaning, outcome}
 use Rattle.iol_core.specs.State.{State}
@@ -23,7 +23,7 @@ orderly_with : (slots other : List (List ℕ)) (h : KernelState) → IsOrderly (
 orderly_with slots other h order =
     subst (λ (s : State). IsOrderly s) (slots-again slots other h) (orderly-slots (with_slots slots h) other order)
 
--- after a step that is the machine's but for the bytes of files
+-- after a step that is the machine's except for the bytes of files
 orderly_beside : (old new : KernelState) (e : Event) (r : Reply) (stored after : List (List ℕ))
     → StepsBeside (λ s. meaning s e) old (outcome r) new → IsOrderly (held.machine_of stored old)
     → IsOrderly (held.machine_of after new)

@@ -1,4 +1,4 @@
--- What a call does to pages, by what the kernel says of it.
+-- The effect of a call on pages, from the kernel's contract.
 use Rattle.std.proofs.Common.{inl, inr, ◌∙◌, ℕ, List, [], ap, refl, sym}
 use Rattle.std.specs.Prelude.{Result}
 use Rattle.iol_core.specs.State.{State}

@@ -1,4 +1,4 @@
--- Replies that tell what a call answers.
+-- Replies that report the answer of a call.
 use Rattle.std.proofs.Common.{◌≡◌, ℕ, List, false, refl, ap, sym, subst}
 use Rattle.std.specs.Prelude.{Result, Ok, Err, OnErr}
 use Rattle.iol_core.specs.State.{State}
@@ -15,15 +15,15 @@ use Rattle.iol_laws.specs.Aggregates.{is_refusal}
 use Rattle.iol_system.specs.Replies.{reported}
 use Rattle.iol_system.specs.Room.{IsEarly, IsMemory, IsNoRoom, IsRefused}
 
--- a call that answers nothing is done
+-- the reply to a call without an answer
 abbrev pub done : Unit {0} → Reply
 done u = reply.Done
 
--- what is sent, and its sum
+-- the reply with the bytes sent and their checksum
 abbrev pub sent : List ℕ × ℕ → Reply
 sent x = reply.Segment x.0 x.1
 
--- the reply that says an answer is no refusal
+-- each answer is reported by a reply that is not a refusal
 abbrev pub Reports : {A : Type 0} → (A → Reply) → Type 0
 Reports {A} f = (a : A) → is_refusal (f a) ≡ false
 
@@ -35,7 +35,7 @@ pub unrefused : (x : Reply) → is_refusal x ≡ false → IsRefused x → ⊥
 unrefused (reply.Refused y) is was = absurd (cc)
 unrefused x is was = was
 
--- what is refused early or for want of room is refused
+-- an early reply, or one for lack of room or memory, is a refusal
 pub early_refused : (x : Reply) → IsEarly x → IsRefused x
 early_refused (reply.Refused y) is = tt
 early_refused x is = is
@@ -55,7 +55,7 @@ reported_step f reports m s t (Ok a) step =
     (step.0, ap f step.1, step.2)
 reported_step f reports m s t (Err x) step = step
 
--- what the call means is what the event means
+-- the event has the meaning of the call, with its answer reported
 abbrev pub Means : {A : Type 0} → (f : A → Reply) → (State → Meaning A) → Event → Type 0
 Means {A} f m e = (s t : State) (r : Result A Refusal) → Step (m s) s r t
     → Step (meaning s e) s (outcome (reported f r)) t

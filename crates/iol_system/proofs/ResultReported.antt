@@ -1,4 +1,4 @@
--- What a result says that a reply tells: of room, of faults, and of early refusals.
+-- From the result of a call to its reply: room, faults and early refusals.
 use Rattle.std.proofs.Common.{◌≡◌, ◌∙◌, ℕ, List, refl, sym, ap, subst, inl, inr}
 use Rattle.std.specs.Prelude.{◌⊎◌, Result, Ok, Err, IfErr, OnErr, OnOk}
 use Rattle.iol_back.specs.Disk.{Disk}
@@ -18,7 +18,7 @@ use Rattle.iol_system.specs.Replies.{reported}
 use Rattle.iol_system.specs.Room.{IsDone, IsEarly, IsFault, IsMemory, IsNoRoom, IsRefused}
 use Rattle.iol_system.proofs.ReplyAnswers.{Reports, answered, early_refused, memory_refused, room_refused, unrefused}
 
--- what a result tells, the reply tells
+-- A property of the result is one of the reply.
 
 pub ok_reported : {A : Type 0} (f : A → Reply) (r : Result A Refusal) (X : Type 0) → OnOk r X → IsDone (reported f r)
     → X
@@ -61,7 +61,7 @@ fault_reported f (Ok a) has lacks reports room is = room
 fault_reported f (Err (Fault n)) has lacks reports room is = room
 fault_reported f (Err x) has lacks reports room is = absurd is
 
--- an early refusal is no late one
+-- an early refusal is not late
 
 pub early_room : (p : ℕ) (x : Refusal) → IsEarly (reply.Refused x) → WantOfRoom p x → ⊥
 early_room p (NoRoom q) is late = is
@@ -81,13 +81,13 @@ early_fault_in s x is late = late
 pub early_fault : (f : ℕ) (x : Refusal) → IsEarly (reply.Refused x) → x ≡ Fault f → ⊥
 early_fault f x is fault = subst (λ (y : Refusal). IsEarly (reply.Refused y)) fault is
 
--- so what is left at an early refusal is X, where that holds of every refusal that is not late
+-- X holds at an early refusal if it holds at each refusal that is not late
 pub early_of : {A : Type 0} (f : A → Reply) (r : Result A Refusal) (X : Type 0) (Late : Refusal → Type 0) → Reports f
     → ((x : Refusal) → IsEarly (reply.Refused x) → Late x → ⊥) → IfErr r (λ x. X ⊎ Late x) → IsEarly (reported f r) → X
 early_of f (Ok a) X Late reports apart left is = absurd (unrefused (f a) (reports a) (early_refused (f a) is))
 early_of f (Err x) X Late reports apart left is = elim left [ inl here ↦ here | inr late ↦ absurd (apart x is late) ]
 
--- what is left at a refusal
+-- a property of the refusal
 
 unless_refused : (x : Reply) (P : Refusal → Type 0) → (IsRefused x → ⊥) → IfRefused x P
 unless_refused (reply.Refused y) P not' = absurd (not' tt)
@@ -103,13 +103,13 @@ pub err_more : {A : Type 0} (r : Result A Refusal) (P Q : Refusal → Type 0) �
 err_more (Ok a) P Q to left = tt
 err_more (Err x) P Q to left = to x left
 
--- the same, with what holds at every refusal
+-- the same, with a property of each refusal
 pub with_tables : {A : Type 0} (r : Result A Refusal) (X : Type 0) (P : Refusal → Type 0) → OnErr r X → IfErr r P
     → IfErr r (λ x. X × P x)
 with_tables (Ok a) X P here left = tt
 with_tables (Err x) X P here left = (here, left)
 
--- the tables are as they were, where the domains are
+-- if the domains' tables are unchanged, so are all tables
 pub tables_kept : {A : Type 0} (r : Result A Refusal) (old new : KernelState)
     → new ≡ record old { store = new.store; cache = new.cache; domains = new.domains }
     → OnErr r (new.domains ≡ old.domains) → OnErr r (SameTables old new)
@@ -118,7 +118,7 @@ tables_kept (Err x) old new same kept =
     same ∙ ap (λ (ds : List (Domain (List Slice))). let h : KernelState =
     record old { store = new.store; cache = new.cache; domains = ds } in h) kept
 
--- when a read was refused, whatever by
+-- the refusal of a read, whether or not it came before room was made
 pub untimed : {A : Type 0} (r : Result A Refusal) (X Y : Type 0) (Late : Refusal → Type 0)
     → IfErr r (λ x. (IsBeforeRoom x × X × Y) ⊎ Late x) → IfErr r (λ x. (X × Y) ⊎ Late x)
 untimed (Ok a) X Y Late left = tt

@@ -1,4 +1,4 @@
--- A system keeps its promises: by what its kernel does, and by laws of the copying machine.
+-- A step of a safe system keeps its promises, by the kernel's contract and by laws of the copying machine.
 use Rattle.std.proofs.Common.{◌≡◌, ◌∙◌, ◌≤◌, true, false, ℕ, List, [], length, refl, ap, sym, subst}
 use Rattle.std.proofs.lemmas.Bool.{true≢false}
 use Rattle.iol_back.specs.Disk.{Disk, IfHonest}
@@ -37,7 +37,7 @@ new_safe s slots sound new enough backed = record {
   placed = λ honest. subst ArePlaced (sym new) (placed_new slots enough);
 }
 
--- a kernel with nothing in it, over a store
+-- an empty kernel over a store is safe
 pub started_safe : (h : KernelState) (disk : Disk) → IsSound h
     → ((stored : List (List ℕ)) → held.machine_of stored h ≡ new_state (slots_of stored)) → IsSafe (system_of h disk)
 started_safe h disk sound new =
@@ -58,7 +58,7 @@ asks_uses s (event.Call by c) unused = asks_call s by c unused
 asks_uses s event.Flush unused = absurd (true≢false unused)
 asks_uses s e unused = refl
 
--- what the kernel does for an event, and what the copying machine says alone
+-- the promises of a step, from the kernel's effect and from laws of the copying machine
 module _ (old new : SystemState) (e : Event) (r : Reply) (safe : IsSafe old)
     (does : Does old.disk old.kernel e r new.disk new.kernel) where
   stepped : IfHonest old.disk (StepsTo (machine_of old) e r (machine_of new))

@@ -1,4 +1,4 @@
--- Where what is held is held as often, no page was freed, and no pool gave chunks back.
+-- If each buffer has the same count, no page was freed, and no pool returned chunks.
 use Rattle.std.proofs.Common.{inl, inr, ◌≡◌, ◌∙◌, ℕ, zero, suc, ◌-◌, ◌*◌, ◌/◌, ◌<◌, true, Bool, List, [], ◌∷◌, get_or}
 use Rattle.std.proofs.Common.{map, Option, Some, refl, sym, ap, arith, subst}
 use Rattle.std.specs.List.{Contains, list_all}
@@ -68,11 +68,11 @@ no_chunk : (cs : List ℕ) (c : ℕ) → cs ≡ [] → Contains cs c → ⊥
 no_chunk cs c none h = absurd (subst (λ l. In l c) none (in_contains cs c h))
 
 module _ (s t : Stored) (tidy : IsTidy s) (still : IsStill s.arena) (alike : HeldAlike s t) where
-  -- a live buffer is live still
+  -- a live buffer is still held
   held_still : (b : BufId) → IsLive s.arena b → 0 < count_of t b
   held_still b live = omega (arith, tidy.held b live, alike.counts b)
 
-  -- where the buffer on a page begins
+  -- the first page of the buffer on a page
   begins : (b : BufId) (q : ℕ) → IsLive s.arena b → LiesOn s.arena b q
       → first_on (arena.entry_at s.arena q).kind q ≡ Some b.page
   begins b q live on = elim (cases_lt b.page q) [
@@ -110,7 +110,7 @@ module _ (s t : Stored) (tidy : IsTidy s) (still : IsStill s.arena) (alike : Hel
       ap (λ g. let z : Entry = record { generation = g; kind = x.kind } in z) (alike.frees.incremented q)
       ∙ ap (λ k. let z : Entry = record { generation = y.generation; kind = k } in z) (same_kind q)
 
-  -- A pool without its chunks had none in which anything lay.
+  -- A pool that has no chunks afterwards had no used page in its chunks.
   module _ (stays : Stays s t) (p : ℕ) (none : (pool_in t.pools p).chunks ≡ []) where
     free_page : (q : ℕ) → Contains (pool_in s.pools p).chunks (q / 16) → IsPlaced s.arena q
         → arena.kind_free (arena.entry_at s.arena q).kind ≡ true
@@ -153,7 +153,7 @@ module _ (s t : Stored) (tidy : IsTidy s) (still : IsStill s.arena) (alike : Hel
     counts = alike.counts;
   }
 
--- what a kernel stands for has the lists of its pools
+-- if the machine's states are equal, so are the lists of pools
 lists_of : (x y : List (List ℕ)) (h k : KernelState) → with_slots y k ≡ with_slots x h → SameLists h.store k.store
 unfolding with_slots read_of state_view
 lists_of x y h k is = ap (λ (m : machine.State). m.pools) is

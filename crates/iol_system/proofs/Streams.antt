@@ -1,4 +1,4 @@
--- A connection that is served from outside keeps a system safe: nobody gets anything by it, and files stay as they are.
+-- Serving a connection in place keeps a system safe: each domain may still read all its bytes, and files are unchanged.
 use Rattle.std.proofs.Common.{◌≡◌, ℕ, zero, suc, drop, List, [], refl, sym, ap, subst, Option, inl, inr}
 use Rattle.std.specs.Prelude.{Result, Ok, Err, IfOk, IfErr, OnErr}
 use Rattle.std.proofs.lemmas.Result.{on_err_weaker}
@@ -26,9 +26,9 @@ use Rattle.iol_system.specs.Safe.{IsSafe}
 use Rattle.iol_system.specs.Streams.{Comes}
 use Rattle.iol_system.proofs.Beside.{access_beside}
 
--- Bytes that came in.
+-- Bytes received.
 
--- what the kernel served, as an event
+-- the bytes that the kernel took, as a step of the event
 served_beside : (h k : KernelState) (c n : ℕ) (bytes : List ℕ) → StepsBeside (λ s. outside.arrive s c bytes) h (Ok n) k
     → StepsBeside (λ s. meaning s (event.Arrive c bytes)) h (outcome (reply.Count n)) k
 served_beside h k c n bytes x =
@@ -47,7 +47,7 @@ came_safe h k disk c n bytes safe x = record {
       (safe.placed honest) (s.0, ap reply.Count s.1, s.2));
 }
 
--- room was made, and nothing came in
+-- room was made, and no bytes arrived
 roomy_safe : (h k : KernelState) (disk : Disk) (pool pages : ℕ) → IsSafe (system_of h disk) → MakesRoom pool pages h k
     → IsSafe (system_of k disk)
 roomy_safe h k disk pool pages safe room = record {
@@ -90,7 +90,7 @@ arrived_comes h k disk c left after (Ok a) safe read = record {
 }
 arrived_comes h k disk c left after (Err x) safe read = read
 
--- nothing came in, and the machine is as it was
+-- no bytes arrived, and the machine's state is unchanged
 pub refused_stays : (h k : KernelState) (disk : Disk) (pool n : ℕ) (r : Result Arrived Refusal)
     → IsSafe (system_of h disk) → IfErr r (MayHaveEvicted pool n h k)
     → IfHonest disk (OnErr r (machine_of (system_of k disk) ≡ machine_of (system_of h disk)))
@@ -99,7 +99,7 @@ refused_stays h k disk pool n (Err x) safe (inl same) =
     λ honest. ap (λ (l : KernelState). held.machine_of disk.slots l) same
 refused_stays h k disk pool n (Err x) safe (inr late) = λ honest. late.room.same.files disk (safe.backed honest)
 
--- Bytes that were sent.
+-- Bytes sent.
 
 sent_access : (c n : ℕ) (s : State) → HasAccess s → HasAccess (sent_on c n s)
 sent_access c zero s access = access
@@ -131,7 +131,7 @@ drained_safe h k disk c max before after (Ok d) safe sound drains err = record {
 drained_safe h k disk c max before after (Err x) safe sound drains err =
     subst (λ (l : KernelState). IsSafe (system_of l disk)) (sym err) safe
 
--- what is refused leaves the store under the files, too
+-- a refusal leaves the store under the files unchanged, too
 pub refuses_same : {W : Type 0} (h k : KernelState) (disk : Disk) (c : ℕ) (writer after : W)
     (r : Result Drained Refusal) → RefusesDrain (tables_of h) c h k writer after r
     → RefusesDrain (tables_of h) c (system_of h disk) (system_of k disk) writer after r

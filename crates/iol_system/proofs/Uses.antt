@@ -1,4 +1,4 @@
--- Each page has one use, and each chunk that is taken one pool: what holds of a safe system.
+-- In a safe system each page has one use, and each chunk that is taken has one pool.
 use Rattle.std.proofs.Common.{◌≡◌, ◌⊎◌, inl, inr, ◌<◌, ◌≤◌, ℕ, arith, sym, subst}
 use Rattle.std.specs.List.{Contains}
 use Rattle.std.proofs.lemmas.Bool.{cases_lt}

@@ -1,4 +1,4 @@
--- What is stored after events that write back, and what is dropped.
+-- The content of the store after events that write back, and the extents after events that drop.
 use Rattle.std.proofs.Common.{◌≡◌, ◌∙◌, ℕ, ◌-◌, ◌<◌, ◌≤◌, Bool, true, false, cond, List, [], ◌∷◌, length, max, Option}
 use Rattle.std.proofs.Common.{Some, None, refl, sym, ap, subst, arith, inl, inr}
 use Rattle.std.proofs.lemmas.Bool.{true≢false}
@@ -45,7 +45,7 @@ use Rattle.iol_system.specs.Room.{IsDone}
 use Rattle.iol_system.specs.WriteBack.{CleansFirst, DropsClean, IsCleanFile, IsFlushed, IsStoredFile, SyncsOn}
 use Rattle.iol_system.specs.WriteBack.{WritesBack}
 
--- A file of which nothing is dirty is what the store has.
+-- The store has exactly the bytes of a file without dirty extents.
 
 cell_clean : (es : List Extent) (i : ℕ) (c : Cell) → dirty_in es ≡ None → cover es i ≡ Some c → c.dirty ≡ false
 cell_clean [] i c none is = cc
@@ -93,13 +93,13 @@ stored_whole s stored es apart none are =
     within : last_end es ≤ length stored
     within = end_stored (length stored) 0 es apart covered
 
--- What `fsync` leaves.
+-- The state after `fsync`.
 
 module _ (by fd : ℕ) (disk after : Disk) (old new : KernelState) (r : Result (Unit {0}) Refusal) where
   abbrev on_file : Option Descriptor → ℕ
   on_file o = unwrap_or (option_map (λ x. x.0) (open_on o)) 0
 
-  -- nothing of the file is dirty
+  -- no extent of the file is dirty
   abbrev AllSynced : Option Descriptor → Type 0
   AllSynced o = dirty_in (extents_in new.cache.files (on_file o)) ≡ None
 
@@ -150,7 +150,7 @@ module _ (by fd : ℕ) (disk after : Disk) (old new : KernelState) (r : Result (
         stores_back = whole_file o syncs;
       }
 
--- What `flush` leaves.
+-- The state after `flush`.
 
 pub cleans_first : (s : Stored) (f : ℕ) (old new : Cached) (d e : Disk) → cache.IsSound s old → AllClean (f - 1) old
     → Cleans s f old new d e → CleansFirst old new
@@ -198,7 +198,7 @@ module _ (disk after : Disk) (old new : KernelState) where
     stores_back = record { answer = r; is = refl; flushes = m };
   }
 
--- What `drop_clean` leaves.
+-- The state after `drop_clean`.
 pub drops_back : (old new : KernelState) (after : Disk) → DropsClean old new
     → WritesBack after old event.DropClean reply.Done after new
 drops_back old new after drops = record {

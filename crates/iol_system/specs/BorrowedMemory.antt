@@ -14,7 +14,7 @@ use Rattle.iol_system.specs.Promises.{Promises}
 use Rattle.iol_system.specs.Replies.{reported}
 use Rattle.iol_system.specs.StoreCalls.{asks_store}
 
--- the event of a read into a memory of this length: at most so many bytes, and fewer than 2^32
+-- the event of a read into a memory of this length: at most this many bytes, and fewer than 2^32
 abbrev pub read_of_most : (by fd len : ℕ) → Event
 read_of_most by fd len = event.Call by (call.Read fd (min len (2 ^ 32 - 1)))
 

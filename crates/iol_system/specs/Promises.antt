@@ -39,7 +39,7 @@ pub record Promises (old : SystemState) (e : Event) (r : Reply) (new : SystemSta
   pub honest : new.disk.honest ≡ old.disk.honest
   -- only calls on files ask the store
   pub unasked : IsFalse (asks_store (tables_of old.kernel) e) → new.disk ≡ old.disk
-  -- Fault is returned exactly when the store failed once more
+  -- if Fault is returned, one more failure of the store is counted, up to the maximum, and otherwise none
   pub faults : IsTrue (asks_store (tables_of old.kernel) e) → FaultCounts old.disk new.disk (outcome r)
   -- the content of an honest store changes only if something is written back
   pub slots : IfHonest old.disk (IsFalse (writes_store e) → new.disk.slots ≡ old.disk.slots)

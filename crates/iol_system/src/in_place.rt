@@ -1,4 +1,4 @@
-//! Connections that are served from outside in place, from readers and to writers.
+//! Connections that are served in place, from readers and to writers.
 ghost use Rattle.iol_sock.specs.Gathers.{EndsShort, IsCalled};
 ghost use Rattle.iol_system.specs.Streams.{ServesFrom, ServesTo};
 ghost use Rattle.std.specs.Prelude.{IfOk};

@@ -15,7 +15,7 @@ pub fn runs_in_parts()
     ensures { RunsInParts }
 {}
 
-/// Each event of a run keeps all promises of a step: NoRoom only where there is no room, sharing, and the others.
+/// Each event of a run keeps all promises of a step: NoRoom only if there is no room, sharing, and the others.
 pub fn each_event_is_a_step()
     ensures { EachEventIsAStep }
 {}

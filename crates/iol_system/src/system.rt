@@ -52,7 +52,7 @@ impl<B: Backing> Model for System<B> {
 }
 
 impl<B: Backing + Drop> System<B> {
-    /// A system with domain 1 and nothing else, over a store, of whose slots none has a name yet.
+    /// A new system over a store: domain 1 and nothing else. No slot of the store has a name yet.
     /// `BadRange` if a size is out of its range.
     pub fn new(alloc: Global, config: Config, backing: B) -> Result<System<B>, Refusal>
         ensures { MakesSystem config (B.disk backing) result }
@@ -162,8 +162,8 @@ impl<B: Backing> System<B> {
         self.kernel.show_into(by, agg, out)
     }
 
-    /// Executes events in order. If there is no memory for the replies, none is executed: it is
-    /// requested first.
+    /// Executes events in order. The memory for the replies is requested first: if there is none,
+    /// no event is executed.
     ///
     /// A run is a chain of steps, each of which keeps all promises of [`System::step`].
     /// Consequences for whole runs are stated in [`laws`](crate::laws).

@@ -38,17 +38,17 @@ use Rattle.iol_laws.proofs.Bounds.ShortAggregates.{fit_meant, fit_new_state, is-
 use Rattle.iol_laws.proofs.Bounds.ShortQueues.{conn-fits, linked_meant, piped_meant, piped_new_state, queue-short}
 use Rattle.iol_laws.proofs.Texts.{length-bytes, length-labelled}
 
--- A file may be no longer than a file may be.
+-- each file is within its limit
 abbrev FilesShort : State → Type 0
 FilesShort s = (f : ℕ) → is_numbered s.files f ≡ true → length (content s f) ≤ MAX_FILE_BYTES
 
--- files and their bytes are the same
+-- files and slots are unchanged
 short_same : (s t : State) → (t.files ≡ s.files) × (t.slots ≡ s.slots) → FilesShort s → FilesShort t
 short_same s t same short f there =
     subst (λ (l : List ℕ). length l ≤ MAX_FILE_BYTES) (sym (content-same s t f same.1))
     (short f (ap (λ (l : List File). is_numbered l f) (sym same.0) ∙ there))
 
--- one file has other bytes
+-- one file gets other bytes
 short_content : (s t : State) (f : ℕ) (bytes : List ℕ) → t.files ≡ s.files → t.slots ≡ (with_content s f bytes).slots
     → length bytes ≤ MAX_FILE_BYTES → FilesShort s → FilesShort t
 unfolding content with_content
@@ -62,7 +62,7 @@ short_content s t f bytes same slots fits short g there = elim (numbered_or-with
       (short g (ap (λ (l : List File). is_numbered l g) (sym same) ∙ there))
 ]
 
--- bytes over others, from a place within on
+-- the length of bytes that are laid over others, from an offset within them
 three : (xs ys zs : List ℕ) → length (xs ++ ys ++ zs) ≡ (length xs + length ys) + length zs
 three xs ys zs = length-append (xs ++ ys) zs ∙ ap (λ n. n + length zs) (length-append xs ys)
 
@@ -98,12 +98,12 @@ short_written s by fd (Some (on.Connection c)) w is fits placed short =
     short_same s _ (files_written s by fd (Some (on.Connection c)) w refl) short
 short_written s by fd o w is fits placed short = short
 
--- a part is no longer
+-- if some bytes are not too long for a descriptor, fewer bytes are not, either
 shorter : (o : Option Descriptor) (n m : ℕ) → n ≤ m → is_too_long o m ≡ false → is_too_long o n ≡ false
 shorter (Some (on.File f at mode)) n m less fits = grind (arith, nat_tests, less, fits)
 shorter o n m less fits = refl
 
--- a file more is one that was, or the new one
+-- after a file is added, each file is an old one or the new one
 pushed : (xs : List File) (x : File) (f : ℕ) → is_numbered (xs ++ x ∷ []) f ≡ true
     → (is_numbered xs f ≡ true) ⊎ (f ≡ length xs + 1)
 pushed xs x f there = elim (cases_eq f (length xs + 1)) [
@@ -162,7 +162,7 @@ short_meant s (event.Call by (call.IolWrite fd a)) passes placed short = short_i
 short_meant s (event.Call by (call.Write fd bytes)) passes placed short = short_write s by fd bytes passes placed short
 short_meant s e passes placed short = short_same s (meaning s e).after ((store_meant s e).files refl) short
 
--- With aggregates and queues.
+-- All limits together.
 
 all_meant : (s : State) (e : Event) → first (meaning s e).refusals ≡ None → ArePlaced s → AreShort s
     → AreShort (meaning s e).after

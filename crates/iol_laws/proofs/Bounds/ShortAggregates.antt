@@ -44,7 +44,7 @@ fits t n less short =
 pub is-short : (t : Text) → fits_aggregate t ≡ true → length t ≤ MAX_AGGREGATE_BYTES
 is-short t is = grind (arith, nat_tests, is)
 
--- a text that is not too long
+-- a length that is not over the limit is within it
 passes : (n : ℕ) → nat_lt MAX_AGGREGATE_BYTES n ≡ false → n ≤ MAX_AGGREGATE_BYTES
 passes n is = grind (arith, nat_tests, is)
 
@@ -54,7 +54,7 @@ taken-less n xs = let e = length-take n xs in grind (arith, nat_tests, e)
 pub dropped-less : {A : Type 0} (n : ℕ) (xs : List A) → length (drop n xs) ≤ length xs
 dropped-less n xs = omega (arith, length-drop n xs)
 
--- the prefix that may be seen
+-- the prefix that a domain may read is no longer than the queue
 admitted-less : (may : ℕ → Bool) (n : ℕ) (q : Text) → length (admitted may (take n q)) ≤ length q
 admitted-less may n q =
     let front : Text = admitted may (take n q) in
@@ -67,7 +67,7 @@ text-fits s d a fit = list_all-lookup fits_aggregate (domain s d).aggs a [] refl
 text-short : (s : State) (d a : ℕ) → AllFit s → length (text s d a) ≤ MAX_AGGREGATE_BYTES
 text-short s d a fit = is-short (text s d a) (text-fits s d a fit)
 
--- What is read.
+-- The text that a read returns.
 
 queue-short : (t : Text) → fits_queue t ≡ true → length t ≤ MAX_AGGREGATE_BYTES
 queue-short t is = grind (arith, nat_tests, is)
@@ -93,7 +93,7 @@ read-short s by fd (Some (on.Connection c)) n is placed short =
     queue-short (conn_at s c).incoming (incoming-fits s c short) in omega (arith, e, q))
 read-short s by fd o n is placed short = (let e = admitted-less (may_read s by) n [] in omega (arith, e))
 
--- What each call brings.
+-- The aggregates that each call creates.
 
 abbrev Fits : (d n : ℕ) → Text → Type 0
 Fits d n t = fits_aggregate t ≡ true

@@ -41,7 +41,7 @@ queue-short t is = grind (arith, nat_tests, is)
 fits-dropped : (n : ℕ) (t : Text) → fits_queue t ≡ true → fits_queue (drop n t) ≡ true
 fits-dropped n t is = fits (drop n t) (length t) (dropped-less n t) (queue-short t is)
 
--- as much as there is room for
+-- a queue stays within its limit if at most as many bytes are appended as it has room for
 fits-more : (t w : Text) → fits_queue t ≡ true → length w ≤ MAX_QUEUE_BYTES - length t → fits_queue (t ++ w) ≡ true
 fits-more t w is room =
     (let short = queue-short t is in let e = length-append t w in
@@ -70,7 +70,7 @@ room-copied : (s : State) (p : ℕ) (o : Option Descriptor) (bytes : List ℕ) �
 room-copied s p (Some (on.File f at mode)) bytes queue = absurd (cc)
 room-copied s p o bytes queue = least-labelled p (length bytes) _ bytes
 
--- no more is written to a queue than there is room for
+-- a write appends no more bytes to a pipe than it has room for
 fits-put : (s : State) (p : ℕ) (o : Option Descriptor) (w : Text) → PipesFit s → is_write_end p o ≡ true
     → (writing.is_file o ≡ false → length w ≤ MAX_QUEUE_BYTES - length (writing.unsent s o))
     → fits_queue ((pipe_at s p).queue ++ w) ≡ true
@@ -117,7 +117,7 @@ list_all-changed p (e ∷ es) n x new all =
           grind (arith, nat_tests, common_steps, r, all, k)
     ]
 
--- what is so of all connections stays so where one changes that has it
+-- a property of all connections is preserved if the changed connection has it
 pub list_all-with_conn : (p : Connection → Bool) (s : State) (c : ℕ) (x : Connection) → p x ≡ true
     → list_all (λ e. p e.1) s.conns ≡ true → list_all (λ e. p e.1) (with_conn s c x).conns ≡ true
 unfolding with_conn
@@ -127,7 +127,7 @@ list_all-with_conn p s c x new all = by (is_over x)
     by true = list_all-without (λ e. p e.1) s.conns c all
     by false = list_all-changed p s.conns c x new all
 
--- where one changes
+-- one connection changes, and its queues are still within the limit
 conns_conn_fit : (s : State) (c : ℕ) (x : Connection) → ConnsFit s
     → (fits_queue (conn_at s c).incoming ≡ true → fits_queue x.incoming ≡ true)
     → (fits_queue (conn_at s c).outgoing ≡ true → fits_queue x.outgoing ≡ true) → ConnsFit (with_conn s c x)
@@ -154,7 +154,7 @@ linked_changed s (NewConn p) un fit =
     list_all-push {A = ℕ × Connection} (λ e. both_fit e.1) s.conns (s.next_conn, new_conn p) fit refl
 linked_changed s x un fit = fit
 
--- what is written to what is open on a connection
+-- connections stay within the limit when a call writes
 linked_written : (s : State) (by fd : ℕ) (o : Option Descriptor) (w : Text)
     → (writing.is_file o ≡ false → length w ≤ MAX_QUEUE_BYTES - length (writing.unsent s o)) → ConnsFit s
     → ConnsFit (writing.written s by fd o w)

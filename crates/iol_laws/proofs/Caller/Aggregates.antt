@@ -20,12 +20,12 @@ use Rattle.iol_laws.proofs.Numbers.{readable-made, number, text-of}
 use Rattle.iol_laws.proofs.Places.{lookup-push, lookup-push_other, lookup-without_none}
 use Rattle.iol_laws.proofs.Texts.{bytes-append, bytes-drop, bytes-labelled, bytes-take}
 
--- two texts, one after the other
+-- the bytes of two texts, one after the other
 joins : (x y : Text) (xs ys : List ℕ) → bytes_of x ≡ xs → bytes_of y ≡ ys → bytes_of (x ++ y) ≡ xs ++ ys
 joins x y xs ys x_is y_is = bytes-append x y
     ∙ (ap (λ (l : List ℕ). l ++ bytes_of y) x_is ∙ ap (λ (l : List ℕ). xs ++ l) y_is)
 
--- an aggregate more, beside those that are kept
+-- an aggregate is added to those that are kept
 made : (s t : State) (d n : ℕ) (kept : List (ℕ × Text)) (x : Text) (bytes : List ℕ) → IsOrderly s → is_live s d ≡ true
     → lookup kept (aggs.next_agg s d) ≡ None → n ≡ aggs.next_agg s d → t ≡ aggs.with_new s d kept x → bytes_of x ≡ bytes
     → Makes s d bytes (reply.Agg n) t
@@ -35,7 +35,7 @@ made s t d n kept x bytes order live none is same bytes_are = (
       ∙ ap (λ (o : Option Text). option_map bytes_of o) (order.aggs d (aggs.next_agg s d) (omega arith)),
 )
 
--- where all are kept
+-- the same if all aggregates are kept
 added : (s t : State) (d n : ℕ) (x : Text) (bytes : List ℕ) → IsOrderly s → is_live s d ≡ true → n ≡ aggs.next_agg s d
     → t ≡ aggs.with_agg s d x → bytes_of x ≡ bytes → Makes s d bytes (reply.Agg n) t
 added s t d n x bytes order live is same bytes_are =
@@ -70,7 +70,7 @@ abbrev pub second_agg : Reply → ℕ
 second_agg (reply.Aggs n m) = m
 second_agg r = 0
 
--- what is found under two numbers one after another
+-- the texts under two consecutive new numbers
 pub two-found : (kept : List (ℕ × Text)) (n : ℕ) (x y : Text) → ((a : ℕ) → n ≤ a → lookup kept a ≡ None)
     → (lookup (kept ++ (n, x) ∷ (n + 1, y) ∷ []) n ≡ Some x)
     × (lookup (kept ++ (n, x) ∷ (n + 1, y) ∷ []) (n + 1) ≡ Some y)

@@ -29,7 +29,7 @@ use Rattle.iol_laws.proofs.Places.{lowest-free, place-set_free}
 use Rattle.iol_laws.proofs.Tests.{is_some-or}
 use Rattle.iol_laws.proofs.Streams.WaitingConn.{opened-conn, waiting-is}
 
--- a text goes behind what is to be sent
+-- a text is appended to the queued output
 pub puts_conn : (s t : State) (d fd c : ℕ) (bytes : List ℕ) (k : ℕ) (x : Text) → IsOrderly s
     → descriptor s d fd ≡ Some (on.Connection c) → FitsIn bytes (MAX_QUEUE_BYTES - length (conn_at s c).outgoing) k x
     → is_gone (conn_at s c).peer ≡ false

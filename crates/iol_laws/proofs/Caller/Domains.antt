@@ -45,7 +45,7 @@ made_in (reply.Domain n) = n
 made_in (reply.Pool p) = p
 made_in r = 0
 
--- what stands next after all of a list
+-- there is no element under the number after the last
 next-none : {A : Type 0} (xs : List A) (z : A) → numbered_or xs (length xs + 1) z ≡ z
 next-none xs z = grind (arith, nat_tests, common_steps)
 
@@ -90,7 +90,7 @@ does_start s t d (reply.Refused x) live step = (
     by false x is = absurd is
 does_start s t d r live step = (let e = step.1 in absurd (cc))
 
--- a domain that ends changes no connection and no pipe
+-- a domain's entry that becomes empty changes no connection and no pipe
 ended-conns : (s : State) (d c : ℕ) → conn_at (with_domain s d no_domain) c ≡ conn_at s c
 unfolding with_domain
 ended-conns s d c = conns_same s (with_domain s d no_domain) (λ k. false) refl c refl
@@ -136,7 +136,7 @@ does_exit s t d r order live step = (let e = step.1 in absurd (cc))
 
 -- Pools.
 
--- a list with a name more names that domain, too, and no other
+-- a list to which a domain is added names this domain and those that it named before
 with_name-names : (list : List ℕ) (d e : ℕ)
     → list_any (λ x. x == e) (with_name list d) ≡ (list_any (λ x. x == e) list || (d == e))
 with_name-names list d e = one (list_any (λ x. x == d) list) refl
@@ -152,7 +152,7 @@ with_name-names list d e = one (list_any (λ x. x == d) list) refl
             (let k : d ≡ e = grind (arith, nat_tests, same) in let f =
             subst (λ n. list_any (λ x. x == n) list ≡ true) k is in grind (arith, f))
 
--- a list in which each stands once names the same
+-- a list without its duplicates names the same domains
 distinct-names : (list : List ℕ) (e : ℕ) → list_any (λ d. d == e) (distinct list) ≡ list_any (λ d. d == e) list
 distinct-names list e = from [] list
   where
@@ -217,7 +217,7 @@ does_close_pool s t d p r step = (let e = step.1 in absurd (cc))
 numbered-same : {A : Type 0} (xs : List A) (n : ℕ) (z : A) → with_numbered xs n (numbered_or xs n z) ≡ xs
 numbered-same xs n z = let e = set-get_or xs (n - 1) z in grind (arith, nat_tests, common_steps, e)
 
--- none of its refusals is for want of memory
+-- Memory is not among these refusals
 never_memory : (a b c d e : Bool) (p : ℕ)
     → first ((refuse.NoDomain when not a) ∷ (refuse.NoPool when not b) ∷ (refuse.TooMany when not c)
     ∷ (refuse.Denied p when not d) ∷ (refuse.PoolClosed p when e) ∷ []) ≡ Some refuse.Memory → ⊥
@@ -228,7 +228,7 @@ never_memory true true true false e p is = cc
 never_memory true true true true true p is = cc
 never_memory true true true true false p is = cc
 
--- a list that is not changed
+-- admitting a domain that may already read the pool changes nothing
 admitted-again : (s : State) (p e : ℕ) → may_read s e p ≡ true
     → record s { pools = with_numbered s.pools p (admitting (pool s p) e) } ≡ s
 unfolding pool

@@ -39,12 +39,12 @@ use Rattle.iol_laws.proofs.Places.{numbered-set}
 
 -- Reading.
 
--- nobody waits for a file
+-- a read of a file is never refused with WouldBlock
 none_waits : (b : Bool) → first ((refuse.WouldBlock when (b && true && false)) ∷ []) ≡ None
 none_waits true = refl
 none_waits false = refl
 
--- the refusals that are left where the file may be read: none
+-- if the domain may read the file, the remaining tests of a read refuse nothing
 pub file-left : (s : State) (d f at n : ℕ) (mode : Mode) → may_read s d (file s f).pool ≡ true
     → reading.reads mode ≡ true → let o : Option Descriptor = Some (on.File f at mode) in
     first ((refuse.WrongMode when not (reading.can_read o)) ∷ reading.read_denied s d o n
@@ -148,7 +148,7 @@ same-domains : (s : State) (f : ℕ) (bytes : List ℕ) → (with_content s f by
 unfolding with_content
 same-domains s f bytes = refl
 
--- each file that is open has a slot
+-- each open file has a slot
 has-slot : (s : State) (d fd f at : ℕ) (mode : Mode) → ArePlaced s → descriptor s d fd ≡ Some (on.File f at mode)
     → is_numbered s.slots f ≡ true
 has-slot s d fd f at mode placed is =
@@ -157,7 +157,7 @@ has-slot s d fd f at mode placed is =
     let slots = placed.slots in
     grind (arith, nat_tests, common_steps, there, few, slots)
 
--- the file after a write of all of these bytes
+-- the file and the position after all of these bytes are written
 pub wrote : (s : State) (d fd f at : ℕ) (mode : Mode) (bytes : List ℕ) → ArePlaced s → is_live s d ≡ true
     → descriptor s d fd ≡ Some (on.File f at mode)
     → let u : State =
@@ -178,7 +178,7 @@ wrote s d fd f at mode bytes placed live is =
         domain-same s (with_content s f (laid_over (content s f) at bytes)) d
         (same-domains s f (laid_over (content s f) at bytes))
 
--- the refusals that are left where a file is written
+-- of the remaining tests of a write to a file only that for TooLong can refuse it
 pub write-left : (s : State) (f at n : ℕ) (mode : Mode) → writing.writes mode ≡ true
     → first ((refuse.WrongMode when not (writing.writes mode)) ∷ (refuse.TooLong when nat_lt MAX_FILE_BYTES (at + n))
     ∷ (refuse.BrokenPipe when false) ∷ (refuse.WouldBlock when (nat_lt 0 n && (n == 0))) ∷ [])
@@ -195,7 +195,7 @@ write-left s f at n mode writes =
     by true b is = refl
     by false b is = ap (λ c. first ((refuse.WouldBlock when c) ∷ [])) is
 
--- TooLong where the file would be too long, and otherwise a late one
+-- TooLong if the file would exceed its limit, and otherwise a late refusal
 pub refused-write : (s t : State) (d fd f at p : ℕ) (mode : Mode) (bytes : List ℕ) (x : Refusal) → t ≡ s
     → MatchOption (first ((refuse.TooLong when nat_lt MAX_FILE_BYTES (at + length bytes)) ∷ [])) (WantOfRoom p x)
     (λ y. x ≡ y) → WritesFile s d fd f at mode bytes (reply.Refused x) t

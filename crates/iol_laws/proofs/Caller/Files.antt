@@ -31,7 +31,7 @@ use Rattle.iol_laws.proofs.Places.{lowest-free, place-set_there}
 use Rattle.iol_laws.proofs.Refusals.Rest.{past-live, past-file}
 use Rattle.iol_laws.proofs.Tests.{is_some-or}
 
--- a descriptor that is open is set
+-- an open descriptor after it is set
 pub moved-fd : (s : State) (d fd : ℕ) (x y : Descriptor) → is_live s d ≡ true → descriptor s d fd ≡ Some x
     → descriptor (fds.with_descriptor s d fd (Some y)) d fd ≡ Some y
 moved-fd s d fd x y live is =
@@ -41,7 +41,7 @@ moved-fd s d fd x y live is =
 
 -- Opening.
 
--- the refusals in order, where the domain lives
+-- the refusals of `open_file`, in order, if the domain is live
 open-refused : (o : Option ℕ) (many may : Bool) (p : ℕ) (x : Refusal)
     → MatchOption
     (first ((refuse.NoFile when is_none o) ∷ (refuse.TooMany when many) ∷ (refuse.Denied p when not may) ∷ []))

@@ -21,7 +21,7 @@ use Rattle.iol_laws.proofs.Domains.{domain-with_other, domain-with_same, both-li
 use Rattle.iol_laws.proofs.Numbers.{readable-made, new-fd, number, text-of}
 use Rattle.iol_laws.proofs.Places.{lookup-without_none, lowest-free, place-new, place-set_free}
 
--- within one domain
+-- to the giver itself
 hands_within : (s t : State) (d fd to : ℕ) (x : Descriptor) (g : ℕ) → is_live s d ≡ true → d ≡ to
     → t ≡ fds.with_fds s d (placed (fds.freed s d fd) (lowest (fds.freed s d fd)) x) → g ≡ lowest (fds.freed s d fd)
     → HandsOn s d fd to x g t
@@ -36,7 +36,7 @@ hands_within s t d fd to x g live one same g_is = record {
   left = λ differ. absurd (differ one);
 }
 
--- to another one
+-- to another domain
 hands_across : (s t : State) (d fd to : ℕ) (x : Descriptor) (g : ℕ) → is_live s d ≡ true → is_live s to ≡ true → d ≢ to
     → t ≡ fds.with_fds (fds.opened s to x) d (fds.freed s d fd) → g ≡ fds.next_fd s to → HandsOn s d fd to x g t
 hands_across s t d fd to x g live live_to differ same g_is =

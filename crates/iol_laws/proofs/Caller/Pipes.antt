@@ -67,7 +67,7 @@ does_read_pipe s t d fd p n (reply.Agg a) order is step =
 does_read_pipe s t d fd p n (reply.Refused x) order is step = step.1
 does_read_pipe s t d fd p n r order is step = (let e = step.1 in absurd (cc))
 
--- a text goes behind what is to be read
+-- a text is appended to the queue
 pub puts_pipe : (s t : State) (p : ℕ) (bytes : List ℕ) (k : ℕ) (x : Text)
     → FitsIn bytes (MAX_QUEUE_BYTES - length (pipe_at s p).queue) k x → not (pipe_at s p).reading ≡ false
     → t ≡ with_pipe s p (record (pipe_at s p) { queue = (pipe_at s p).queue ++ x }) → PutsInPipe s p bytes k t

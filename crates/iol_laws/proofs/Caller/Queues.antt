@@ -21,7 +21,7 @@ use Rattle.iol_laws.proofs.Texts.{admitted-rest, bytes-take, length-bytes}
 abbrev pub front : (may : ℕ → Bool) (n : ℕ) → Text → Text
 front may n q = admitted may (take n q)
 
--- the front was taken off, and where it is empty nothing is there, and nothing comes any more
+-- the admitted prefix is taken off; if it is empty, so is the queue, and no more bytes can come
 pub record TakesFront (may : ℕ → Bool) (n : ℕ) (q : Text) (more : Bool) : Type 0 where
   pub was : q ≡ front may n q ++ drop (length (front may n q)) q
   pub ended : 0 < n → front may n q ≡ [] → (q ≡ []) × (more ≡ false)
@@ -36,7 +36,7 @@ takes_front may n q more free still =
           λ some none. (let gone = none-admitted may n q some free none in (gone, none-comes n q more some gone still));
     }
 
--- what a read that is done was not refused for, by what the descriptor is open on
+-- the tests that a successful read passed, for the object of its descriptor
 module _ (s : State) (d fd n : ℕ) (o : Option Descriptor) (is : descriptor s d fd ≡ o) where
   pub read_passes : first (reading.iol_read s d fd n).refusals ≡ None → (reading.read_denied s d o n ≡ None)
       × (reading.must_wait s o n ≡ false)
@@ -54,7 +54,7 @@ module _ (s : State) (d fd n : ℕ) (o : Option Descriptor) (is : descriptor s d
         (passed (reading.read s d fd n).refusals 4 none),
   )
 
--- as many bytes of a text as fit
+-- x is the first k of these bytes, as many as fit
 pub record FitsIn (bytes : List ℕ) (free k : ℕ) (x : Text) : Type 0 where
   pub within : k ≤ length bytes
   pub most : k ≡ min (length bytes) free
@@ -71,7 +71,7 @@ fits_in w bytes free k is most =
       text_is = bytes-take k w ∙ ap (λ (l : List ℕ). take k l) is;
     }
 
--- what a write that is done did, by what the descriptor is open on
+-- the effect of a successful write, for the object of its descriptor
 module _ (s t : State) (d fd k : ℕ) (o : Option Descriptor) (is : descriptor s d fd ≡ o) where
   pub wrote_agg : (a : ℕ) → StepsTo s (event.Call d (call.IolWrite fd a)) (reply.Count k) t
       → (k ≡ writing.fitting s o (length (text s d a))) × (t ≡ writing.written s d fd o (take k (text s d a)))

@@ -34,7 +34,7 @@ use Rattle.iol_laws.proofs.DescriptorNumbers.Lowest.{free-freed}
 use Rattle.iol_laws.proofs.Places.{place-placed_other}
 use Rattle.iol_laws.proofs.Tests.{same-number, differs}
 
--- What is not open, after each kind of change.
+-- Descriptors that are not open, after each kind of change.
 
 abbrev Shut : State → (d fd : ℕ) → Type 0
 Shut s d fd = descriptor s d fd ≡ None
@@ -49,7 +49,7 @@ shut_domain s by y d fd new none = elim (domain-with_domain s by d y) [
   | inr same ↦ ap (λ (z : Domain Text). in_place z.fds fd) same ∙ none
 ]
 
--- of that domain
+-- the same for an equal number of the domain
 own : (s : State) (by d fd : ℕ) → Shut s d fd → by ≡ d → Shut s by fd
 own s by d fd none same = subst (λ n. Shut s n fd) (sym same) none
 
@@ -57,7 +57,7 @@ shut_fds : (s : State) (by : ℕ) (xs : List (Option Descriptor)) (d fd : ℕ) �
     → Shut s d fd → Shut (fds.with_fds s by xs) d fd
 shut_fds s by xs d fd new none = shut_domain s by (record (domain s by) { fds = xs }) d fd new none
 
--- aggregates come and go
+-- a domain changes, but not its descriptors
 shut_aggs : (s : State) (by : ℕ) (y : Domain Text) (d fd : ℕ) → y.fds ≡ (domain s by).fds → Shut s d fd
     → Shut (with_domain s by y) d fd
 shut_aggs s by y d fd same none =
@@ -74,7 +74,7 @@ shut_freed : (s : State) (by f d fd : ℕ) → Shut s d fd → Shut (fds.with_fd
 shut_freed s by f d fd none = shut_fds s by _ d fd (λ same. free-freed (domain s by).fds f fd (own s by d fd none same))
     none
 
--- one that is open moves on
+-- an open descriptor is set
 shut_moved : (s : State) (by f : ℕ) (x : Descriptor) (o : Option Descriptor) (d fd : ℕ) → descriptor s by f ≡ Some x
     → Shut s d fd → Shut (fds.with_descriptor s by f o) d fd
 shut_moved s by f x o d fd is none =

@@ -29,7 +29,7 @@ use Rattle.iol_laws.proofs.DescriptorNumbers.ByReplies.{shut_step}
 use Rattle.iol_laws.proofs.DescriptorNumbers.Lowest.{lowest-freed, lowest-taken, taken-placed}
 use Rattle.iol_laws.proofs.Tests.{left-false, same-number}
 
--- a domain that has no more open than it may has a low number free
+-- a domain that may open more descriptors has room for them below the limit
 within : (s : State) (d made : ℕ) → fds.too_many_open s d made ≡ false → taken (domain s d).fds + made ≤ MAX_OPEN
 within s d made un = grind (arith, nat_tests, un)
 
@@ -109,7 +109,7 @@ low_number s t e (reply.Fd g) fd low step is = (let i = step.1 in absurd (cc))
 low_number s t e (reply.Fds g h) fd low step is = (let i = step.1 in absurd (cc))
 low_number s t e r fd low step is = absurd (cc)
 
--- a number that is given to a domain is given
+-- a number that a domain gets is a number in the reply
 given : (e : Event) (r : Reply) (d fd : ℕ) → opens e r d fd ≡ true → gives_number r fd ≡ true
 given (event.Call by (call.GiveFd f to)) (reply.Fd g) d fd is = grind (arith, common_steps, is)
 given (event.Call by k) (reply.Fd g) d fd is = grind (arith, common_steps, is)

@@ -10,7 +10,7 @@ use Rattle.iol_core.proofs.Places.{place-set_other}
 use Rattle.iol_laws.proofs.Places.{place-set_free, placed-cons, placed-none}
 
 module _ {A : Type 0} where
-  -- a place that is taken stands before the others
+  -- an element at the front increments the lowest free index
   lowest-cons : (x : A) (xs : List (Option A)) → lowest (Some x ∷ xs) ≡ suc (lowest xs)
   lowest-cons x xs = grind (arith, nat_tests, common_steps)
 
@@ -27,7 +27,7 @@ module _ {A : Type 0} where
   taken-placed (None ∷ xs) x = rw (placed-none xs x) refl
   taken-placed (Some y ∷ xs) x = (let r = taken-placed xs x in rw (placed-cons y xs x) (omega (arith, r)))
 
-  -- a place that was freed is not before the lowest
+  -- the lowest free index is at most one that was freed
   pub lowest-freed : (xs : List (Option A)) (n : ℕ) (x : A) → in_place xs n ≡ Some x → lowest (slice_set xs n None) ≤ n
   lowest-freed [] n x is = absurd (cc)
   lowest-freed (z ∷ xs) zero x is = (let e : lowest {A = A} (None ∷ xs) ≡ 0 = grind (arith, nat_tests, common_steps) in
@@ -38,7 +38,7 @@ module _ {A : Type 0} where
   lowest-freed (Some z ∷ xs) (suc n) x is =
       (let e = lowest-cons z (slice_set xs n None) in let r = lowest-freed xs n x is in omega (arith, e, r))
 
-  -- a free place stays free where another is freed
+  -- a free index stays free when another one is freed
   pub free-freed : (xs : List (Option A)) (n m : ℕ) → in_place xs m ≡ None → in_place (slice_set xs n None) m ≡ None
   free-freed xs n m none = elim (cases_eq n m) [
     | inl same ↦ subst (λ k. in_place (slice_set xs n None) k ≡ None) same (place-set_free xs n)

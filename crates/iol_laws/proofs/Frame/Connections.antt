@@ -15,7 +15,7 @@ use Rattle.iol_laws.proofs.Changes.{kept_all, none_changed, none_handed, own, us
 use Rattle.iol_laws.proofs.Connections.{KeepsConns, conn-push, conns_conn, conns_same}
 use Rattle.iol_laws.proofs.Tests.{apart, both-false, left-false}
 
--- whether a change is of this connection, or makes one
+-- whether a change is of this connection, or creates one
 abbrev pub of_conn : (c : ℕ) → Change → Bool
 of_conn c (OnConn e x) = e == c
 of_conn c (NewConn p) = true

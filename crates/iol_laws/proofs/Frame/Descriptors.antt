@@ -66,7 +66,7 @@ fd_unused d f s by fd o act un = refl
 abbrev moves : (d f : ℕ) → Use → Bool
 moves d f u = (u.by == d) && (u.fd == f) && is_file u.end
 
--- all descriptors but those that a test names
+-- all open descriptors are unchanged, except those that a test names
 abbrev KeepsFds : (s t : State) → (ℕ → ℕ → Bool) → Type 0
 KeepsFds s t touched = (d f : ℕ) (x : Descriptor) → descriptor s d f ≡ Some x → touched d f ≡ false
     → descriptor t d f ≡ Some x

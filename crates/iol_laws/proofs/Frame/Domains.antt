@@ -21,7 +21,7 @@ use Rattle.iol_laws.proofs.Changes.{changes-meant, none_at_all, none_changed}
 use Rattle.iol_laws.proofs.Domains.{domains-with_conn, domains-with_pipe}
 use Rattle.iol_laws.proofs.Tests.{both-false}
 
--- whether a change of this kind is made of the domain
+-- whether a change is of this domain, and passes the test
 abbrev pub is_of : (OfDomain → Bool) → (d : ℕ) → Change → Bool
 is_of test d (OnDomain e x) = test x && (e == d)
 is_of test d c = false
@@ -29,7 +29,7 @@ is_of test d c = false
 untested : (test : Bool) (e d : ℕ) → (test && (e == d)) ≡ false → e ≡ d → test ≡ false
 untested test e d un same = grind (arith, nat_tests, un, same)
 
--- Something about a domain that only some changes of it change.
+-- A function of a domain that only changes which pass a test may change.
 module _ {A : Type 0} (f : Domain Text → A) (test : OfDomain → Bool) (each : (x : OfDomain) (y : Domain Text)
     → test x ≡ false → (f (domain_by x y) ≡ f y) × ((domain_by x y).live ≡ y.live)) where
   field_same : (s t : State) (d : ℕ) (v : A) → domain t d ≡ domain s d → (is_live s d ≡ true) × (f (domain s d) ≡ v)
@@ -60,7 +60,7 @@ module _ {A : Type 0} (f : Domain Text → A) (test : OfDomain → Bool) (each :
       kept_all (λ t. (is_live t d ≡ true) × (f (domain t d) ≡ f (domain s d))) (is_of test d)
       (field_changed d (f (domain s d))) s cs un (live, refl)
 
--- it ends, or, at true, its default pool is set
+-- whether a change ends a domain or, if b is true, sets its default pool
 abbrev pub ends_or : Bool → OfDomain → Bool
 ends_or b Ends = true
 ends_or b (Prefers p) = b
@@ -92,13 +92,13 @@ none_meant b s (event.Call by k) d un sets =
     (none_own b s by d k un sets)
 none_meant b s e d un sets = refl
 
--- what ends a domain also changes its default pool
+-- an event that may end a domain is one that may change its default pool
 not_ended : (e : Event) (d : ℕ) → sets_default e d ≡ false → ends e d ≡ false
 not_ended (event.Call by call.Exit) d un = un
 not_ended (event.Call by k) d un = refl
 not_ended e d un = refl
 
--- which domains an event leaves
+-- the live domains and the default pools that an event leaves unchanged
 pub record KeepsDomains (s : State) (e : Event) (t : State) : Type 0 where
   pub lives : (d : ℕ) → is_live s d ≡ true → ends e d ≡ false → is_live t d ≡ true
   pub defaults : (d : ℕ) → is_live s d ≡ true → sets_default e d ≡ false → (domain t d).default ≡ (domain s d).default

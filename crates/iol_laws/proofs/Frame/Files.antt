@@ -27,7 +27,7 @@ use Rattle.iol_laws.proofs.Changes.{changed, is_write, is_writing, kept_unwritte
 use Rattle.iol_laws.specs.Frame.{Grows, admits_to, changes_files, closes_pool, is_on_file, writes_file}
 use Rattle.iol_laws.proofs.Tests.{apart}
 
--- files, their bytes and the pools
+-- files, their bytes and the pools are unchanged
 pub record SameStore (s t : State) : Type 0 where
   pub files : t.files ≡ s.files
   pub slots : t.slots ≡ s.slots
@@ -39,7 +39,7 @@ unfolding with_pipe with_conn
 files_written s by fd (Some (on.File f at mode)) w un = absurd (cc)
 files_written s by fd o w un = (refl, refl)
 
--- the files and the pools are those that were, and so are the bytes of the other files
+-- the files, the pools and the bytes of other files than the one written are unchanged
 record Wrote (s : State) (to : Option Descriptor) (t : State) : Type 0 where
   files : t.files ≡ s.files
   pools : t.pools ≡ s.pools
@@ -82,7 +82,7 @@ store_written s by fd (Some (on.Connection e)) w =
     }
 store_written s by fd o w = record { files = refl; pools = refl; contents = λ f un. refl }
 
--- whether a change is of a file or a pool, or makes one
+-- whether a change is of a file or a pool, or creates one
 abbrev of_store : Change → Bool
 of_store (Fills f bytes) = true
 of_store (Shuts p) = true
@@ -113,14 +113,14 @@ store_left s by k un first =
     kept_unwritten (SameStore s) of_store (store_changed s) store_unused s by k un first
     (record { files = refl; slots = refl; pools = refl })
 
--- whether it makes or changes a pool
+-- whether an event creates or changes a pool
 abbrev pub changes_pools : Event → Bool
 changes_pools (event.Call by (call.PoolCreate chunks list)) = true
 changes_pools (event.Call by (call.PoolClose p)) = true
 changes_pools (event.Call by (call.PoolAdmit p d)) = true
 changes_pools e = false
 
--- a pool of the table that was
+-- an existing pool exists in an equal table
 there-same : (s t : State) (p : ℕ) → t.pools ≡ s.pools → is_pool s p ≡ true → is_pool t p ≡ true
 there-same s t p same is = ap (λ (ps : List Pool). is_numbered ps p) same ∙ is
 
@@ -134,7 +134,7 @@ there-with xs q x p is = elim (cases_eq q 0) [
   | inr k ↦ grind (arith, nat_tests, common_steps, k, is)
 ]
 
--- the files that were, and the pools that were
+-- the files and pools that an event leaves unchanged
 pub record KeepsStore (s : State) (e : Event) (t : State) : Type 0 where
   pub files : changes_files s e ≡ false → (t.files ≡ s.files) × (t.slots ≡ s.slots)
   pub contents : (f : ℕ) → writes_file s e f ≡ false → content t f ≡ content s f
@@ -164,7 +164,7 @@ grows_named xs d = elim (list_any (λ e. e == d) xs) as (λ b. Grows xs (if b th
   | false ↦ record { more = d ∷ []; few = omega arith; is = refl }
 ]
 
--- the same files by name, and the same pools
+-- the lists of files and pools are unchanged
 store_of : (s t : State) (e : Event) → t.files ≡ s.files → t.pools ≡ s.pools
     → (changes_files s e ≡ false → t.slots ≡ s.slots)
     → ((f : ℕ) → writes_file s e f ≡ false → content t f ≡ content s f) → KeepsStore s e t
@@ -183,7 +183,7 @@ store_of s t e files pools slots contents = record {
 pub store_kept : (s t : State) (e : Event) → SameStore s t → KeepsStore s e t
 store_kept s t e same = store_of s t e same.files same.pools (λ un. same.slots) (λ f un. content-same s t f same.slots)
 
--- a call that writes what a descriptor is open on
+-- a call that writes to the object of a descriptor
 store_wrote : (s : State) (e : Event) (by fd : ℕ) (to : Option Descriptor) (w : Text)
     → changes_files s e ≡ writing.is_file to → ((f : ℕ) → writes_file s e f ≡ is_on_file f to)
     → KeepsStore s e (writing.written s by fd to w)
@@ -192,7 +192,7 @@ store_wrote s e by fd to w changes writes =
     store_of s (writing.written s by fd to w) e wrote.files wrote.pools
     (λ un. (files_written s by fd to w (sym changes ∙ un)).1) (λ f un. wrote.contents f (sym (writes f) ∙ un))
 
--- one more of a list
+-- an element is appended to a list
 numbered-push : {A : Type 0} (xs : List A) (x z : A) (n : ℕ) → is_numbered xs n ≡ true
     → numbered_or (xs ++ x ∷ []) n z ≡ numbered_or xs n z
 numbered-push xs x z n is = grind (arith, nat_tests, common_steps, is)
@@ -256,7 +256,7 @@ list-admitted s q d p = elim (numbered_or-with s.pools q p (admitting (pool s q)
   | inr same ↦ grows_same _ _ (ap (λ (x : Pool). x.domains) same)
 ]
 
--- a call that makes or changes pools, and leaves the files
+-- a call that creates or changes pools, and leaves files unchanged
 store_pools : (s : State) (e : Event) (ps : List Pool) → changes_pools e ≡ true
     → ((p : ℕ) → is_pool s p ≡ true → is_numbered ps p ≡ true)
     → ((p : ℕ) → is_pool s p ≡ true → Grows (pool s p).domains (numbered_or ps p no_pool).domains)

@@ -40,7 +40,7 @@ pub pipe-new : (s : State) (by p : ℕ) → lowest s.pipes ≢ p → pipe_at (fd
 unfolding pipe_at
 pipe-new s by p differ = ap (λ o. unwrap_or o no_pipe) (place-placed_other s.pipes p new_pipe differ)
 
--- whether a change is of this pipe, or makes one
+-- whether a change is of this pipe, or creates one
 abbrev pub of_pipe : (p : ℕ) → Change → Bool
 of_pipe p (OnPipe q x) = q == p
 of_pipe p NewPipe = true

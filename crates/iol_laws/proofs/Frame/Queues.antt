@@ -1,5 +1,5 @@
--- What holds of the unread bytes of a pipe after each event, where it holds of no bytes, of a rest of them, and with
--- what is written.
+-- A property of a pipe's unread bytes holds after each event if it holds for no bytes, for each rest of them, and with
+-- the bytes written.
 use Rattle.std.proofs.Common.{inl, inr, ◌≡◌, ℕ, [], ◌++◌, length, take, drop, refl, sym, subst, arith, Option, Some}
 use Rattle.std.proofs.Common.{true, false, Bool}
 use Rattle.std.specs.List.{list_any}
@@ -22,7 +22,7 @@ use Rattle.iol_laws.proofs.Changes.{Reads, Writes, changed, is_write, kept_unwri
 use Rattle.iol_laws.proofs.Frame.Pipes.{pipes_pipe, pipes_same}
 use Rattle.iol_laws.proofs.Order.Ends.{pipe-either, pipe-other, pipe-there}
 
--- whether bytes are added to a queue by a call
+-- whether a change adds bytes to a queue
 abbrev pub adds : Change → Bool
 adds (OnPipe p (Puts w)) = true
 adds (OnConn c (IsUsed (Writes w))) = true
@@ -50,7 +50,7 @@ module _ (L : Text → Type 0) (nothing : L []) (rest : (n : ℕ) (q : Text) →
     ])
   ]
 
-  -- of that pipe
+  -- the same for an equal number of the pipe
   of_it : (s : State) (q : ℕ) → InQueue s → q ≡ p → L (pipe_at s q).queue
   of_it s q was same = subst (λ n. L (pipe_at s n).queue) (sym same) was
 
@@ -83,7 +83,7 @@ module _ (L : Text → Type 0) (nothing : L []) (rest : (n : ℕ) (q : Text) →
       (pipes_same s (writing.written s by fd (Some (on.Connection c)) w) (λ q. false) refl p refl) was
   queue_written s by fd o w new was = was
 
-  -- it holds with what the event writes to the pipe
+  -- the property holds with the bytes that the event writes to the pipe
   abbrev pub HoldsWith : State → Event → Type 0
   HoldsWith s (event.Call by (call.IolWrite fd a)) =
       is_write_end p (descriptor s by fd) ≡ true

@@ -24,7 +24,7 @@ use Rattle.iol_laws.proofs.Tests.{left-true}
 unnumbered : {A : Type 0} (xs : List A) (n : ℕ) (z : A) → is_numbered xs n ≡ false → numbered_or xs n z ≡ z
 unnumbered xs n z un = grind (arith, nat_tests, common_steps, un)
 
--- a pool that may be read is there
+-- a pool that a domain may read exists
 readable : (s : State) (d p : ℕ) → may_read s d p ≡ true → is_pool s p ≡ true
 unfolding pool
 readable s d p may = by (is_pool s p) refl
@@ -35,7 +35,7 @@ readable s d p may = by (is_pool s p) refl
         absurd (let e = unnumbered s.pools p no_pool is in let f =
         ap (λ (x : Pool). list_any (λ e. e == d) x.domains) e in cc (f, may))
 
--- whom a list names it goes on to name
+-- a list that grows still names each domain that it named
 names_left : (old new : List ℕ) (d : ℕ) → Grows old new → list_any (λ e. e == d) old ≡ true
     → list_any (λ e. e == d) new ≡ true
 names_left old new d grows may = ap (λ (l : List ℕ). list_any (λ e. e == d) l) grows.is

@@ -50,22 +50,22 @@ use Rattle.iol_laws.proofs.Order.Counts.{not-on, tally, tally_in, tally-file, ta
 
 -- After a change.
 
--- the connections stand once, which each change keeps with the balance
+-- The numbers of connections are unique, and descriptors are balanced. Each change preserves both together.
 abbrev Fit : State → Type 0
 Fit s = Once s.conns × Balanced s
 
--- as many descriptors, and the same objects
+-- the numbers of descriptors and the existing objects are unchanged
 balanced_same : (s t : State) → Balanced s → ((x : Descriptor) → IsEnd x → count t x ≡ count s x)
     → ((x : Descriptor) → stands t x ≡ stands s x) → Balanced t
 balanced_same s t was counts objects x end = counts x end ∙ (was x end ∙ ap bit (sym (objects x)))
 
--- more descriptors on an object that comes
+-- the number of descriptors of each object, and that of the object itself (0 or 1), grow equally
 balanced_more : (s t : State) → Balanced s
     → ((x : Descriptor) → IsEnd x → (n : ℕ) × (count t x ≡ count s x + n) × (bit (stands t x) ≡ bit (stands s x) + n))
     → Balanced t
 balanced_more s t was each x end = (let it = each x end in omega (arith, was x end, it.1, it.2))
 
--- and fewer on one that goes
+-- the number of descriptors of each object, and that of the object itself (0 or 1), fall equally
 balanced_less : (s t : State) → Balanced s
     → ((x : Descriptor) → IsEnd x → (n : ℕ) × (count t x + n ≡ count s x) × (bit (stands t x) + n ≡ bit (stands s x)))
     → Balanced t
@@ -99,7 +99,7 @@ count-kept x s d y same = elim (in-range s d) [
 count-same : (s t : State) (x : Descriptor) → t.domains ≡ s.domains → count t x ≡ count s x
 count-same s t x same = ap (sum_by (tally_in x)) same
 
--- a descriptor is opened, or closed
+-- the number of descriptors after one is opened or closed
 count-opened : (x : Descriptor) (s : State) (d : ℕ) (y : Descriptor) → is_live s d ≡ true
     → count (fds.opened s d y) x ≡ count s x + hits x (Some y)
 count-opened x s d y live =
@@ -141,14 +141,14 @@ fit_conn s c y accepted closed was = (
       (stands-conn s c y was.0 accepted closed),
 )
 
--- the same domains, connections and pipes
+-- domains, connections and pipes are unchanged
 fit_rest : (s t : State) → t.domains ≡ s.domains → t.conns ≡ s.conns → t.pipes ≡ s.pipes → Fit s → Fit t
 fit_rest s t domains conns pipes was = (
   subst (λ (l : List (ℕ × Connection)). Once l) (sym conns) was.0,
   balanced_same s t was.1 (λ x end. count-same s t x domains) (λ x. stands-same s t x conns pipes),
 )
 
--- whether a change opens or closes an end or a connection, or may
+-- whether a change may open or close an end of a pipe or a connection
 abbrev opens : Change → Bool
 opens (OnDomain d Ends) = true
 opens (OnDomain d (Opens y)) = not (is_file (Some y))
@@ -190,7 +190,7 @@ fit_changed s NewPipe un was = absurd (cc)
 fit_changed s (NewConn p) un was = absurd (cc)
 fit_changed s c un was = fit_rest s (changed s c) refl refl refl was
 
--- What is closed.
+-- Closing.
 
 stands-closed : (s : State) (o : Option Descriptor) (x : Descriptor) → Once s.conns → IsEnd x
     → hits x o ≤ bit (stands s x) → bit (stands (fds.closed_on s o) x) + hits x o ≡ bit (stands s x)
@@ -282,7 +282,7 @@ close_balanced s by fd o is live was =
           was.1 x end,
         ))
 
--- What moves, and what opens.
+-- Giving, and opening.
 
 give_balanced : (s : State) (by fd to : ℕ) (o : Option Descriptor) → descriptor s by fd ≡ o → is_live s by ≡ true
     → is_live s to ≡ true → Balanced s → Balanced (option_map_or (fds.given_to s by fd to) o s)
@@ -432,7 +432,7 @@ accept_balanced s by order live some was =
                   (omega (arith, ap bit new, ap (λ b. bit (b && not (conn_at s c).closed)) it, ap bit (itself c)))
             ]
 
--- What calls read, write and move.
+-- Reading, writing and seeking.
 
 read_fit : (s : State) (by fd : ℕ) (o : Option Descriptor) (n : ℕ) → descriptor s by fd ≡ o → Fit s
     → Fit (reading.read_on s by fd o n)
@@ -488,7 +488,7 @@ balanced_called s by (call.Write f bytes) order was unrefused = (written_fit s b
 balanced_called s by k order was unrefused =
     (kept_called Fit opens fit_changed s by k (λ u. true) (λ u e. absurd (cc (e))) refl refl was).1
 
--- a connection that nobody accepted yet does not stand
+-- a new connection is not accepted, so it does not count as existing
 stands-conn_new : (s : State) (p : ℕ) → IsOrderly s → (x : Descriptor) → stands (conn_new s p).after x ≡ stands s x
 stands-conn_new s p order (on.File f at mode) = refl
 stands-conn_new s p order (on.ReadEnd q) =

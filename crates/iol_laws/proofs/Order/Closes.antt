@@ -23,7 +23,7 @@ use Rattle.iol_laws.proofs.Changes.{none-open}
 use Rattle.iol_laws.proofs.Frame.Pipes.{pipes_pipe, pipes_same, pipes-with_conn}
 use Rattle.iol_laws.proofs.Tests.{left-true, right-true, left-false, right-false}
 
--- what is open passes the test of some
+-- if an open descriptor passes a test, an element of the list passes it
 pub some-open : (test : Option Descriptor → Bool) (xs : List (Option Descriptor)) (n : ℕ) (x : Descriptor)
     → in_place xs n ≡ Some x → test (Some x) ≡ true → list_any test xs ≡ true
 some-open test [] n x is passes = absurd (cc)
@@ -61,7 +61,7 @@ shut-remains s c once = conn-remains s c x once (by (lookup s.conns c) refl)
         ap (λ (k : Connection). is_over (record k { incoming = []; closed = true })) (conn-unmade s c is) in
         cc (e, over))
 
--- It is closed, and has the same to send.
+-- A connection that is closed has the same queued output.
 
 pub shut_closed : (k : Connection) → (shut_as k).closed ≡ true
 shut_closed k = by (is_over (record k { incoming = []; closed = true }))
@@ -80,7 +80,7 @@ shut_outgoing k = by (is_over (record k { incoming = []; closed = true })) refl
     by true over = sym (nothing-left k.outgoing (true || (not k.accepted && is_gone k.peer)) over)
     by false over = refl
 
--- closed twice, it is closed once
+-- closing a connection twice is closing it once
 shut-twice : (k : Connection) → shut_as (shut_as k) ≡ shut_as k
 shut-twice k = by (is_over x) refl
   where
@@ -153,7 +153,7 @@ abbrev pub is_write_end : (p : ℕ) → Option Descriptor → Bool
 is_write_end p (Some (on.WriteEnd q)) = q == p
 is_write_end p o = false
 
--- a pipe whose ends may have been closed
+-- u is pipe k after its read end is closed if `reads`, and its write end if `writes`
 pub record MayShut (k u : Pipe) (reads writes : Bool) : Type 0 where
   pub reading : u.reading ≡ (k.reading && not reads)
   pub writing : u.writing ≡ (k.writing && not writes)
@@ -254,7 +254,7 @@ may_shut s (Some (on.WriteEnd q)) p = elim (cases_eq q p) [
 ]
 may_shut s o p = unshut (pipe_at s p) (pipe_at s p) refl
 
--- one after another
+-- closing some ends and then others closes all of them
 shut_then : (k u v : Pipe) (r w x y : Bool) → MayShut k u r w → MayShut u v x y → MayShut k v (r || x) (w || y)
 shut_then k u v r w x y one two = record {
   reading = two.reading ∙ (ap (λ b. b && not x) one.reading ∙ both k.reading r x);
@@ -308,7 +308,7 @@ write_end_ended s list fd p is =
     ∙ and-not (pipe_at s p).writing (list_any (is_write_end p) list)
     (some-open (is_write_end p) list fd (on.WriteEnd p) is one)
 
--- the tests of one that has not this end
+-- a descriptor that is not this end of the pipe fails the end's test
 pub not-reading : (p : ℕ) (o : Option Descriptor) → (o ≡ Some (on.ReadEnd p) → ⊥) → is_read_end p o ≡ false
 not-reading p (Some (on.ReadEnd q)) never =
     elim (cases_eq q p) [
@@ -335,7 +335,7 @@ pub none-writing : (p : ℕ) (list : List (Option Descriptor)) → ((fd : ℕ) �
     → list_any (is_write_end p) list ≡ false
 none-writing p list nobody = none-open (is_write_end p) list (λ n. not-writing p (in_place list n) (nobody n))
 
--- what nobody among them read stays to be read
+-- a pipe keeps its read end and its bytes if no closed descriptor is its read end
 pub unread_ended : (s : State) (list : List (Option Descriptor)) (p : ℕ)
     → ((fd : ℕ) → in_place list fd ≡ Some (on.ReadEnd p) → ⊥) → (pipe_at s p).reading ≡ true → let u : Pipe =
     pipe_at (fold fds.closed_on s list) p in (u.reading ≡ true) × (u.queue ≡ (pipe_at s p).queue)
@@ -345,7 +345,7 @@ unread_ended s list p nobody reads =
     let on_yet : (pipe_at (fold fds.closed_on s list) p).reading ≡ true = all.reading ∙ grind (arith, none, reads) in
     (on_yet, all.kept none (left-true _ _ on_yet))
 
--- one end of a pipe, where the other is open elsewhere or nowhere
+-- one end of a pipe is closed, and the other end is not among the closed descriptors
 
 and-on : (a b : Bool) → b ≡ false → (a && not b) ≡ a
 and-on true b off = ap (λ b. not b) off

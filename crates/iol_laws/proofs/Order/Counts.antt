@@ -1,5 +1,4 @@
--- Each pipe end and each connection that exists is open in one descriptor: the number of its descriptors is 1, and 0
--- where it does not exist.
+-- The number of descriptors of each pipe end and each connection: it is 1 if the object exists, and 0 otherwise.
 use Rattle.std.proofs.Common.{zero, suc, ◌≡◌, ℕ, ◌+◌, ◌-◌, ◌<◌, ◌≤◌, ◌==◌, List, [], ◌∷◌, get_or, set, ap, ◌∙◌, refl}
 use Rattle.std.proofs.Common.{sym, subst, arith, Option, Some, None, true, false, Bool}
 use Rattle.std.specs.Prelude.{sum_by}
@@ -17,7 +16,7 @@ use Rattle.iol_laws.proofs.Order.Closes.{is_read_end, is_write_end}
 use Rattle.iol_laws.proofs.Places.{placed-cons, placed-none}
 use Rattle.iol_laws.proofs.Tests.{same-number, itself}
 
--- Where a sum over a list is not 0, and where it is at most 1; past the end of the list an element counts 0.
+-- When a sum over a list is positive, and when it is at most 1. An element past the end of the list counts 0.
 module _ {A : Type 0} (w : A → ℕ) (z : A) (none : w z ≡ 0) where
   some-there : (xs : List A) → 0 < sum_by w xs → (n : ℕ) × (0 < w (get_or xs n z))
   some-there [] more = absurd (omega (arith, more))
@@ -145,7 +144,7 @@ tally-placed x (Some z ∷ list) y = ap (tally x) (placed-cons z list y)
       tally-placed x list y,
     )
 
--- a file's position moves
+-- a descriptor of a file is set to one of a file
 pub tally-file : (x : Descriptor) (list : List (Option Descriptor)) (n : ℕ) (o : Option Descriptor) → is_file o ≡ true
     → is_file (in_place list n) ≡ true → tally x (set list n o) ≡ tally x list
 tally-file x list n o file was =
@@ -191,7 +190,7 @@ counted : (s : State) (x : Descriptor) (d f : ℕ) → IsEnd x → descriptor s 
 counted s x d f end is =
     omega (arith, tally-most s x d, at-most (hits x) None (not-on x) (domain s d).fds f, ap (hits x) is, it-is-on x end)
 
--- one descriptor at most
+-- an object on which no two descriptors are open has at most one descriptor
 few : (s : State) (x : Descriptor)
     → ((d e f g : ℕ) → descriptor s d f ≡ Some x → descriptor s e g ≡ Some x → (d ≡ e) × (f ≡ g)) → count s x ≤ 1
 few s x one = few-there (tally_in x) no_domain refl s.domains each once
@@ -225,7 +224,7 @@ one_of s x most end (suc n) (suc m) f g here there =
           (subst (λ k. 0 < hits x (in_place (get_or s.domains k no_domain).fds g)) (sym same) b),
     )
 
--- each object that exists has one descriptor, and no other has any
+-- each pipe end and each connection has one descriptor if it exists, and none otherwise
 abbrev pub Balanced : State → Type 0
 Balanced s = (x : Descriptor) → IsEnd x → count s x ≡ bit (stands s x)
 

@@ -1,4 +1,4 @@
--- An ended domain has nothing, and an existing pipe has an open end: after each event.
+-- After each event an ended domain has nothing, and an existing pipe has an open end.
 use Rattle.std.proofs.Common.{inl, inr, zero, suc, ◌≡◌, ℕ, List, [], ◌∷◌, ap, ◌∙◌, refl, sym, subst, Option, Some, None}
 use Rattle.std.proofs.Common.{true, false, Bool, arith}
 use Rattle.std.specs.Prelude.{slice_set, unwrap_or, not, ◌||◌, if◌then◌else◌, fold}
@@ -35,7 +35,7 @@ pub record AllGone (s : State) : Type 0 where
 pub gone_of : (s : State) → IsOrderly s → AllGone s
 gone_of s order = record { gone = order.gone; ends = order.ends }
 
--- the same domains and pipes
+-- domains and pipes are unchanged
 pub gone_same : (s t : State) → t.domains ≡ s.domains → t.pipes ≡ s.pipes → AllGone s → AllGone t
 gone_same s t domains pipes was = record {
   gone =
@@ -43,7 +43,7 @@ gone_same s t domains pipes was = record {
   ends = λ p x is. was.ends p x (sym (ap (λ (l : List (Option Pipe)). in_place l p) pipes) ∙ is);
 }
 
--- another domain in its place, of which nothing is left where it does not live
+-- a domain is replaced by another entry, which is empty if it is not live
 gone_domain : (s : State) (d : ℕ) (x : Domain Text) → (x.live ≡ false → x ≡ no_domain) → AllGone s
     → AllGone (with_domain s d x)
 unfolding with_domain
@@ -55,7 +55,7 @@ gone_domain s d x new was = record {
   ends = was.ends;
 }
 
--- one that lives as before
+-- a live domain is replaced by another entry that is live
 gone_live : (s : State) (d : ℕ) (x : Domain Text) → is_live s d ≡ true → x.live ≡ (domain s d).live → AllGone s
     → AllGone (with_domain s d x)
 gone_live s d x live same was = gone_domain s d x (λ dead. absurd (cc (live, same, dead))) was
@@ -67,7 +67,7 @@ live-with s d e x same live = elim (domain-with_domain s d e x) [
   | inr other ↦ ap (λ (z : Domain Text). z.live) other ∙ live
 ]
 
--- what is put in a pipe's place has an open end, or nothing is there
+-- a pipe is replaced by one with an open end, or removed
 gone_pipe : (s : State) (p : ℕ) (x : Pipe) → AllGone s → AllGone (with_pipe s p x)
 unfolding with_pipe
 gone_pipe s p x was = record {
@@ -101,13 +101,13 @@ gone_all_closed : (s : State) (list : List (Option Descriptor)) → AllGone s �
 gone_all_closed s [] was = was
 gone_all_closed s (o ∷ list) was = gone_all_closed (fds.closed_on s o) list (gone_closed_on s o was)
 
--- whether a change ends a domain, or is of one that does not live
+-- whether a change ends a domain, or is of a domain that is not live
 abbrev strange : State → Change → Bool
 strange s (OnDomain d Ends) = true
 strange s (OnDomain d x) = not (is_live s d)
 strange s c = false
 
--- nothing is left of who does not live, and who lived lives
+-- ended domains have nothing, existing pipes have an open end, and live domains stay live
 abbrev StaysGone : State → State → Type 0
 StaysGone s t = AllGone t × ((d : ℕ) → is_live s d ≡ true → is_live t d ≡ true)
 
@@ -164,7 +164,7 @@ strange_unused s by fd (Some (on.ReadEnd p)) (Writes w) dead = refl
 strange_unused s by fd (Some (on.WriteEnd p)) (Writes w) dead = refl
 strange_unused s by fd o act dead = refl
 
--- after a call of a domain that lives, which changes no other that does not
+-- after a call of a live domain whose own changes end no domain, and change only live ones
 gone_left : (s : State) (by : ℕ) (k : Call) → is_live s by ≡ true → AllGone s
     → (is_live s by ≡ true → list_any (strange s) (own s by k) ≡ false) → AllGone (called s by k).after
 gone_left s by k live was first =

@@ -18,7 +18,7 @@ use Rattle.iol_laws.proofs.Frame.Pipes.{pipes_pipe, pipes_same}
 use Rattle.iol_laws.proofs.Places.{lowest-free, place-new, place-placed_other, place-set_free}
 use Rattle.iol_laws.proofs.Tests.{both-true, left-false, not-true, right-false}
 
--- A pipe is as it was set, unless both its ends are closed.
+-- A pipe has the value that was set, unless both its ends are closed.
 
 pub pipe-with_same : (s : State) (p : ℕ) (x : Pipe) → ((pipe_at s p).reading || (pipe_at s p).writing) ≡ true
     → (x.reading || x.writing) ≡ true → pipe_at (with_pipe s p x) p ≡ x
@@ -38,7 +38,7 @@ unfolding pipe_at with_pipe
 pipe-gone s p x off = ap (λ b. unwrap_or (in_place (slice_set s.pipes p (if b then Some x else None)) p) no_pipe) off
     ∙ ap (λ (o : Option Pipe). unwrap_or o no_pipe) (place-set_free s.pipes p)
 
--- what is left of a pipe
+-- the pipe, or no pipe if both its ends are closed
 abbrev pub left_of : Pipe → Pipe
 left_of x = if x.reading || x.writing then x else no_pipe
 
@@ -80,7 +80,7 @@ pub pipe-other : (s : State) (q : ℕ) → lowest s.pipes ≢ q
 unfolding pipe_at
 pipe-other s q differ = ap (λ o. unwrap_or o no_pipe) (place-placed_other s.pipes q new_pipe differ)
 
--- opening the two ends one after another is the call
+-- opening the two ends of a new pipe one after another is the call `pipe`
 pub pipe-twice : (s : State) (by : ℕ) → is_live s by ≡ true
     → fds.opened (fds.opened (record s { pipes = placed s.pipes (lowest s.pipes) new_pipe }) by
     (on.ReadEnd (lowest s.pipes))) by (on.WriteEnd (lowest s.pipes)) ≡ (fds.pipe s by).after
@@ -114,7 +114,7 @@ stands-same s t (on.WriteEnd p) conns pipes = ap (λ (x : Pipe). x.writing) (pip
 stands-same s t (on.Connection c) conns pipes =
     ap (λ (x : Connection). x.accepted && not x.closed) (conns_same s t (λ k. false) conns c refl)
 
--- the ends of a pipe that opens none
+-- the ends of a pipe that is replaced by one with the same ends
 pipe-ends : (s : State) (p : ℕ) (x : Pipe) → x.reading ≡ (pipe_at s p).reading → x.writing ≡ (pipe_at s p).writing
     → ((pipe_at (with_pipe s p x) p).reading ≡ x.reading) × ((pipe_at (with_pipe s p x) p).writing ≡ x.writing)
 pipe-ends s p x reads writes = by (x.reading || x.writing) refl
@@ -153,7 +153,7 @@ stands-pipe s p x reads writes (on.WriteEnd q) = elim (cases_eq p q) [
 abbrev pub is_used : Connection → Bool
 is_used k = k.accepted && not k.closed
 
--- a connection that is closed as before
+-- a connection that is replaced by one that is closed exactly if it was
 pub conn-used : (s : State) (c : ℕ) (x : Connection) → Once s.conns → x.closed ≡ (conn_at s c).closed
     → is_used (conn_at (with_conn s c x) c) ≡ is_used x
 conn-used s c x once closed = by (is_used x) refl

@@ -1,5 +1,5 @@
--- If no domain is live, nothing that was accepted or made in one is left: no aggregate, no descriptor and no pipe; a
--- remaining connection was closed, or never accepted.
+-- If no domain is live, no domain has an aggregate or a descriptor, and no pipe is left; a remaining connection was
+-- closed, or never accepted.
 use Rattle.std.proofs.Common.{◌≡◌, ◌∙◌, ℕ, ap, refl, Option, Some, None, true, false, Bool}
 use Rattle.std.specs.Prelude.{unwrap_or, ◌||◌}
 use Rattle.iol_core.specs.NumberedLists.{in_place}
@@ -15,7 +15,7 @@ NoneLive s = (d : ℕ) → is_live s d ≡ false
 pub domain-none : (s : State) → IsOrderly s → NoneLive s → (d : ℕ) → domain s d ≡ no_domain
 domain-none s order dead d = order.gone d (dead d)
 
--- what stands is open in a domain that lives
+-- if no domain is live, no end of a pipe and no accepted connection exists
 pub none-stands : (s : State) → IsOrderly s → NoneLive s → (x : Descriptor) → is_file (Some x) ≡ false
     → stands s x ≡ true → ⊥
 none-stands s order dead x end is = (let it = order.held x end is in let live = it.live in let off = dead it.by in

@@ -13,7 +13,7 @@ use Rattle.iol_laws.proofs.AggsOfEach.{Brings, BringsIn, IsOfAggs, of_meant}
 use Rattle.iol_laws.proofs.Connections.{once-push, once-without}
 use Rattle.iol_laws.proofs.Places.{lookup-push_other, lookup-without_none}
 
--- each number stands once, and is below the next
+-- the numbers of aggregates are unique, and below the next one
 pub record IsNumbered (kept : List (ℕ × Text)) (n : ℕ) : Type 0 where
   pub below : (a : ℕ) → n ≤ a → lookup kept a ≡ None
   pub once : Once kept

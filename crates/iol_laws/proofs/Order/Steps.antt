@@ -31,7 +31,7 @@ pipe-unmade : (s : State) (p : ℕ) → in_place s.pipes p ≡ None → pipe_at 
 unfolding pipe_at
 pipe-unmade s p none = ap (λ (o : Option Pipe). unwrap_or o no_pipe) none
 
--- who has it open lives, since nothing is left of who does not
+-- the domain of an open descriptor is live, because an ended domain has nothing
 open-is : (s : State) (y : Descriptor) → AllGone s → HasOpen s y → IsOpen s y
 open-is s y gone has = record { by = has.0; fd = has.1; live = lives (is_live s has.0) refl; there = has.2 }
   where
@@ -116,7 +116,7 @@ orderly_new slots = record {
         both-true (conn_at (new_state slots) c).accepted (not (conn_at (new_state slots) c).closed) is in let g = f.1 in
         cc (e, g))
 
--- whatever bytes files have
+-- an orderly state is orderly with any contents of its slots
 pub orderly-slots : (s : State) (slots : List (List ℕ)) → IsOrderly s → IsOrderly (record s { slots = slots })
 unfolding domain pool pipe_at conn_at
 orderly-slots s slots order = record {

@@ -1,4 +1,4 @@
--- A connection that is not accepted is open, and has nothing to send; numbers of connections are new.
+-- A connection that is not accepted is not closed, and has no queued output; numbers of connections are new.
 use Rattle.std.proofs.Common.{inl, inr, zero, suc, ◌≡◌, ℕ, ◌≤◌, List, [], ◌∷◌, drop, ap, ◌∙◌, refl, sym, subst, arith}
 use Rattle.std.proofs.Common.{None, true, false}
 use Rattle.std.proofs.lemmas.Bool.{cases_eq}
@@ -61,7 +61,7 @@ waiting_conn s c x fine q = record {
       ])
     ]
 
--- what is accepted may be closed and written to
+-- the condition is only about connections that are not accepted
 accepted-fine : (x : Connection) → x.accepted ≡ true → Fine x
 accepted-fine x is = (λ a. absurd (cc (is, a)), λ a. absurd (cc (is, a)))
 

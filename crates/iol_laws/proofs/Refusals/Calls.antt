@@ -30,7 +30,7 @@ use Rattle.iol_laws.specs.RefusalsLeft.{CannotPut, CannotPutOrLacksRoom}
 use Rattle.iol_laws.proofs.Numbers.{agg-there, text-of}
 use Rattle.iol_laws.proofs.Texts.{length-bytes}
 
--- each refusal of a list that may hold is one of these
+-- each refusal in a list satisfies the predicate
 abbrev pub Pass : (Refusal → Type 0) → List (Option Refusal) → Type 0
 Pass Is [] = ⊤
 Pass Is (o ∷ os) = MatchOption o ⊤ Is × Pass Is os
@@ -59,7 +59,7 @@ pub denied_by : (Is : Refusal → Type 0) (s : State) (d : ℕ) (o : Option ℕ)
 denied_by Is s d None is = tt
 denied_by Is s d (Some p) is = may Is (refuse.Denied p) (not (may_read s d p)) (is p)
 
--- late ones
+-- late refusals
 
 pub of-memory : (Is : Refusal → Type 0) (x : Refusal) → Is refuse.Memory → WantOfMemory x → Is x
 of-memory Is refuse.Memory is want = is
@@ -71,7 +71,7 @@ of-room Is p refuse.Memory is room want = is
 of-room Is p (refuse.NoRoom q) is room want = room q want
 of-room Is p x is room want = absurd want
 
--- what the domain has
+-- the caller, its aggregates, its descriptors and its default pool
 
 pub alive : (s : State) (d : ℕ) → is_live s d ≡ true → not (is_live s d) ≡ false
 alive s d live = ap (λ b. not b) live
@@ -256,7 +256,7 @@ left_accept s t d x live step =
       (may Is refuse.TooMany _ tt, (may Is refuse.WouldBlock _ tt, tt)),
     ) (of-memory Is x tt) step.0
 
--- what holds of the ends of queues holds of what is no file
+-- a property of the ends of pipes and of connections holds for each descriptor that is not of a file
 of_queue : (P : Descriptor → Type 0) → ((q : ℕ) → P (on.ReadEnd q)) → ((q : ℕ) → P (on.WriteEnd q))
     → ((c : ℕ) → P (on.Connection c)) → (y : Descriptor) → is_file (Some y) ≡ false → P y
 of_queue P reads writes conns (on.File f at mode) queue = absurd (cc)
@@ -318,7 +318,7 @@ left_copy s t d fd n y x live is queue can step =
     )
     (λ late. of-memory Is x tt (read-late s d fd y x is queue late)) step.0
 
--- writing to one
+-- writing to a queue
 
 can-write : (s : State) (d fd : ℕ) (y : Descriptor) → descriptor s d fd ≡ Some y → writing.can_write (Some y) ≡ true
     → not (writing.can_write (descriptor s d fd)) ≡ false
@@ -400,7 +400,7 @@ left_copy_to s t d fd p y bytes x live is queue can default open_yet step =
     )
     (of-room Is (writing.pool_for s d o) x tt (λ q q_is. q_is ∙ (pool-for s d fd y is queue ∙ p_is))) step.0
 
--- who may be told to wait
+-- the calls that may get WouldBlock
 
 abbrev pub blocks : Refusal → Bool
 blocks refuse.WouldBlock = true
@@ -409,7 +409,7 @@ blocks x = false
 abbrev pub IsNoWait : Refusal → Type 0
 IsNoWait x = blocks x ≡ false
 
--- each refusal of a list is another, and so is each late one
+-- WouldBlock does not result from a list of other refusals and from other late ones
 pub others : (os : List (Option Refusal)) (Late : Refusal → Type 0) → Pass IsNoWait os
     → (Late refuse.WouldBlock → IsNoWait refuse.WouldBlock)
     → MatchOption (first os) (Late refuse.WouldBlock) (λ y. refuse.WouldBlock ≡ y) → ⊥

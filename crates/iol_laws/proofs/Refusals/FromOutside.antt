@@ -61,7 +61,7 @@ left_flush s t x step = step.0
 pub left_drop_clean : (s t : State) (x : Refusal) → StepsTo s event.DropClean (reply.Refused x) t → ⊥
 left_drop_clean s t x step = step.0
 
--- what arrives where it cannot
+-- arriving bytes that are refused with BrokenPipe
 
 second : (a b c : Bool) → first ((refuse.BadFd when a) ∷ (refuse.BrokenPipe when b) ∷ (refuse.WouldBlock when c) ∷ [])
     ≡ Some refuse.BrokenPipe → b ≡ true

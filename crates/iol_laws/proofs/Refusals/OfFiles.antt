@@ -28,7 +28,7 @@ use Rattle.iol_laws.specs.RefusalsLeft.{LacksNumbers, CannotLoad, CannotFetch, L
 use Rattle.iol_laws.proofs.Numbers.{agg-there}
 use Rattle.iol_laws.proofs.Refusals.Calls.{left, may, not-so, of-memory, of-room, alive, long, open-fd}
 
--- late ones
+-- late refusals
 
 of-fault : (Is : Refusal → Type 0) (f : ℕ) (x : Refusal) → Is (refuse.Fault f) → FaultOf f x → Is x
 of-fault Is f (refuse.Fault g) is late = subst (λ n. Is (refuse.Fault n)) (sym late) is
@@ -41,9 +41,9 @@ of-load Is p f (refuse.NoRoom q) memory room fault late = subst (λ n. Is (refus
 of-load Is p f (refuse.Fault g) memory room fault late = subst (λ n. Is (refuse.Fault n)) (sym late) fault
 of-load Is p f x memory room fault late = absurd late
 
--- what is open on a file
+-- descriptors of files
 
--- a mark of a descriptor that a file has not
+-- a test that a file's descriptor fails
 unmarked : (test : Option Descriptor → Bool) (s : State) (d fd f at : ℕ) (mode : Mode)
     → descriptor s d fd ≡ Some (on.File f at mode) → test (Some (on.File f at mode)) ≡ false
     → test (descriptor s d fd) ≡ false
@@ -64,7 +64,7 @@ admitted Is s d fd f at n mode is may =
     subst (λ (o : Option Descriptor). MatchOption (reading.read_denied s d o n) ⊤ Is) (sym is)
     (not-so Is (refuse.Denied (file s f).pool) (not (may_read s d (file s f).pool)) (ap (λ b. not b) may))
 
--- reading one
+-- reading a file
 
 pub left_read_file : (s t : State) (d fd f at n : ℕ) (mode : Mode) (x : Refusal) → is_live s d ≡ true
     → descriptor s d fd ≡ Some (on.File f at mode) → reading.reads mode ≡ true → may_read s d (file s f).pool ≡ true
@@ -121,7 +121,7 @@ left_copy_file s t d fd f at n mode x live is reads may_see step =
     (λ late. of-load Is (file s f).pool f x tt refl refl
     (subst (λ (o : Option Descriptor). reading.read_late s o x) is late)) step.0
 
--- writing to one
+-- writing to a file
 
 within : (at n m : ℕ) → n ≡ m → at + m ≤ MAX_FILE_BYTES → nat_lt MAX_FILE_BYTES (at + n) ≡ false
 within at n m same fits = grind (arith, nat_tests, same, fits)
@@ -200,7 +200,7 @@ left_copy_to_file s t d fd f at mode bytes x live is writes fits step =
     (λ late. of-room Is (file s f).pool x tt (λ q q_is. q_is)
     (subst (λ (o : Option Descriptor). WantOfRoom (writing.pool_for s d o) x) is late)) step.0
   where
-    -- what is asked of a queue alone
+    -- a test that is only for queues
     on-file : (b : Bool) → (not (writing.is_file (descriptor s d fd)) && b) ≡ false
     on-file b = ap (λ (o : Option Descriptor). not (writing.is_file o) && b) is
 

@@ -26,7 +26,7 @@ use Rattle.iol_laws.proofs.Refusals.OfFiles.{pool-there}
 use Rattle.iol_laws.proofs.Texts.{bytes-append, bytes-drop, bytes-take, length-bytes}
 use Rattle.iol_laws.proofs.Tests.{both-false}
 
--- it may come, and then its condition holds
+-- a refusal under a condition satisfies a predicate that holds under this condition
 where-so : (Is : Refusal → Type 0) (y : Refusal) (b : Bool) → (b ≡ true → Is y) → MatchOption (y when b) ⊤ Is
 where-so Is y true so = so refl
 where-so Is y false so = tt
@@ -109,7 +109,7 @@ left_set_pool s t d p x live may_see open_yet step =
     )
     (λ late. late) step.0
 
--- as long as its bytes
+-- the text after a replacement is as long as its bytes
 replaced-long : (s : State) (d a from to b : ℕ) (xs ys : List ℕ) → readable_at s d a ≡ Some xs
     → readable_at s d b ≡ Some ys → length (take from (text s d a) ++ text s d b ++ drop to (text s d a))
     ≡ length (take from xs ++ ys ++ drop to xs)

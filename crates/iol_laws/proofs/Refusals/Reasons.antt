@@ -30,18 +30,18 @@ use Rattle.iol_laws.proofs.Numbers.{agg-there}
 use Rattle.iol_laws.proofs.Refusals.Rest.{past, past-live}
 use Rattle.iol_laws.proofs.Tests.{not-true}
 
--- a refusal that is no late one is the first that holds
+-- a refusal that is not late is the first that applies
 pub said : (o : Option Refusal) (x : Refusal) → MatchOption o ⊥ (λ y. x ≡ y) → o ≡ Some x
 said None x never = absurd never
 said (Some y) x is = ap (λ z. Some z) (sym is)
 
--- it is not this one, so it is among the rest
+-- a refusal of a list other than its head is one of the rest
 pub other : (o : Option Refusal) (rest : List (Option Refusal)) (x : Refusal) → (o ≡ Some x → ⊥)
     → first (o ∷ rest) ≡ Some x → first rest ≡ Some x
 other None rest x differ is = is
 other (Some y) rest x differ is = absurd (differ is)
 
--- it is none of the rest, so it is this one
+-- a refusal of a list other than those of the rest is its head
 pub this : (o : Option Refusal) (rest : List (Option Refusal)) (x : Refusal) → (first rest ≡ Some x → ⊥)
     → first (o ∷ rest) ≡ Some x → o ≡ Some x
 this None rest x never is = absurd (never is)
@@ -60,7 +60,7 @@ when-differs y x false differ is = cc
 
 -- Reading.
 
--- of a queue the denied one is the pool of the first byte
+-- a refusal for access to a queue is Denied, with the pool of the first byte
 denied-first : (may : ℕ → Bool) (n : ℕ) (q : Text) (x : Refusal)
     → option_map refuse.Denied (barred may (take (min n 1) q)) ≡ Some x → (p : ℕ) × (x ≡ refuse.Denied p) × (b : ℕ)
     × (rest : Text) × (q ≡ (b, p) ∷ rest) × (may p ≡ false)
@@ -92,7 +92,7 @@ denied-first may n q x is = by (min n 1) one q is
             ∙ found) in
             (b.1, sym x_is, b.0, q, refl, may_is)
 
--- a queue is read: what the refusals of the descriptor come down to
+-- of the refusals of a read of a queue, only those by its bytes are left
 queue-said : (s : State) (d n : ℕ) (o : Option Descriptor) (live gone wrong many : Bool) (x : Refusal)
     → (refuse.NoDomain ≡ x → ⊥) → (refuse.BadFd ≡ x → ⊥) → (refuse.WrongMode ≡ x → ⊥) → (refuse.TooMany ≡ x → ⊥)
     → first ((refuse.NoDomain when live) ∷ (refuse.BadFd when gone) ∷ (refuse.WrongMode when wrong)
@@ -108,7 +108,7 @@ queue-said s d n o live gone wrong many x a b c e is =
     (other (refuse.NoDomain when live) ((refuse.BadFd when gone) ∷ (refuse.WrongMode when wrong)
     ∷ (refuse.TooMany when many) ∷ rest) x (when-differs refuse.NoDomain x live a) is)))
 
--- a queue that must wait is empty, and may grow
+-- a read has to wait only if the queue is empty and more bytes can come
 waits-empty : (n : ℕ) (q : Text) (more : Bool) → (nat_lt 0 n && (length q == 0) && more) ≡ true
     → (q ≡ []) × (more ≡ true)
 waits-empty n [] more is = (refl, grind (arith, is))
@@ -345,7 +345,7 @@ nobody_waits s t d c step waits = by (lookup s.conns c) refl
         barred_by false b yet fails = fails
         barred_by true b yet fails = absurd (cc)
 
--- What is not refused.
+-- Calls that are never refused.
 
 pub close_is_done : (s t : State) (d fd : ℕ) (x : Descriptor) (r : Reply) → is_live s d ≡ true
     → descriptor s d fd ≡ Some x → StepsTo s (event.Call d (call.Close fd)) r t → r ≡ reply.Done

@@ -13,12 +13,12 @@ pub past : (o : Option Refusal) (rest : List (Option Refusal)) → o ≡ None �
 past None rest none = refl
 past (Some x) rest none = absurd (cc)
 
--- the caller lives
+-- if the caller is live
 pub past-live : (s : State) (d : ℕ) (rest : List (Option Refusal)) → is_live s d ≡ true
     → first ((refuse.NoDomain when not (is_live s d)) ∷ rest) ≡ first rest
 past-live s d rest live = past (refuse.NoDomain when not (is_live s d)) rest (ap (λ b. refuse.NoDomain when not b) live)
 
--- and its descriptor is open on a file
+-- and if its descriptor is open on a file
 pub past-file : (s : State) (d fd f at : ℕ) (mode : Mode) (rest : List (Option Refusal)) → is_live s d ≡ true
     → descriptor s d fd ≡ Some (on.File f at mode)
     → first ((refuse.NoDomain when not (is_live s d)) ∷ (refuse.BadFd when is_none (descriptor s d fd))

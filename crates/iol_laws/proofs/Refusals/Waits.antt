@@ -16,7 +16,7 @@ use Rattle.iol_laws.specs.RefusalsLeft.{event_may_wait}
 use Rattle.iol_laws.proofs.Refusals.Reasons.{said, other, this, when-some, when-differs}
 use Rattle.iol_laws.proofs.Refusals.Calls.{IsNoWait, may, others, who_waits}
 
--- the last of three, of which the others are other refusals
+-- if the result is the last of three refusals, and the others differ from it, its condition holds
 last : (x y : Refusal) (a b c : Bool) → (x ≡ refuse.WouldBlock → ⊥) → (y ≡ refuse.WouldBlock → ⊥)
     → first ((x when a) ∷ (y when b) ∷ (refuse.WouldBlock when c) ∷ []) ≡ Some refuse.WouldBlock → c ≡ true
 last x y a b c x_not y_not is =
@@ -26,7 +26,7 @@ last x y a b c x_not y_not is =
     (when-differs x refuse.WouldBlock a x_not) is) in
     when-some refuse.WouldBlock c (this (refuse.WouldBlock when c) [] refuse.WouldBlock (λ e. cc) back)
 
--- bytes that arrive, of which none fits
+-- arriving bytes, if none of them fits
 
 none-fits : (n came : ℕ) → (nat_lt 0 n && (min n (MAX_QUEUE_BYTES - came) == 0)) ≡ true → MAX_QUEUE_BYTES ≤ came
 none-fits n came is = grind (arith, nat_tests, is)
@@ -43,7 +43,7 @@ arrival_is_full s t c (b ∷ bytes) step =
     (last refuse.BadFd refuse.BrokenPipe _ _ _ (λ e. cc) (λ e. cc)
     (said (first (outside.arrive s c (b ∷ bytes)).refusals) refuse.WouldBlock step.0))
 
--- a segment of nothing
+-- a segment, if there is no output
 
 none-left : {A : Type 0} (xs : List A) → (length xs == 0) ≡ true → xs ≡ []
 none-left [] is = refl
@@ -56,7 +56,7 @@ segment_is_empty s t c max step =
     (last refuse.BadFd refuse.BadRange _ _ _ (λ e. cc) (λ e. cc)
     (said (first (outside.transmit s c max).refusals) refuse.WouldBlock step.0))
 
--- no other event from outside waits
+-- the events that may get WouldBlock
 
 waits : (s t : State) (e : Event) → StepsTo s e (reply.Refused refuse.WouldBlock) t → event_may_wait e ≡ true
 waits s t (event.Call d k) step = who_waits s t d k step

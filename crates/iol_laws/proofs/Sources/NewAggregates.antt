@@ -37,7 +37,7 @@ refused-same : (s t : State) (e : Event) (r : Reply) → StepsTo s e r t → is_
 refused-same s t e (reply.Refused x) step is = step.1
 refused-same s t e r step is = absurd (cc)
 
--- of nothing a part is nothing
+-- each part of an empty list is empty
 nothing : (n at : ℕ) → take n (drop {A = ℕ} at []) ≡ []
 nothing zero zero = refl
 nothing zero (suc at) = refl
@@ -48,7 +48,7 @@ module _ (pools : ℕ → Bool) where
   abbrev pub Lie : Text → Type 0
   Lie t = lie_in pools t ≡ true
 
-  -- what is under a number
+  -- the text of an aggregate that is found
   lie-found : (s : State) (d a : ℕ) (x : Text) → aggregate s d a ≡ Some x → Lie x → Lie (text s d a)
   lie-found s d a x is lies = subst (λ (o : Option Text). Lie (unwrap_or o [])) (sym is) lies
 
@@ -65,7 +65,7 @@ module _ (pools : ℕ → Bool) where
   lie-added s t d n a x order live n_is same is lies =
       lie-made s t d n a (domain s d).aggs x live (order.aggs d (aggs.next_agg s d) (omega arith)) n_is same is lies
 
-  -- parts of texts
+  -- a part of a text in these pools is in them
   lie-front : (x y : Text) → Lie (x ++ y) → Lie x
   lie-front [] y lies = refl
   lie-front (b ∷ x) y lies = (let two = both-true (pools b.1) (lie_in pools (x ++ y)) lies in let front =
@@ -87,7 +87,7 @@ module _ (pools : ℕ → Bool) where
   pub lie-fresh : (p : ℕ) (bytes : List ℕ) → pools p ≡ true → Lie (labelled p bytes)
   lie-fresh p bytes is = list_all-labelled pools p bytes is
 
-  -- the prefix that may be seen
+  -- the prefix that a domain may read
   lie-admitted : (may : ℕ → Bool) (n : ℕ) (x : Text) → Lie x → Lie (admitted may (take n x))
   lie-admitted may n x lies =
       (let front : Text = admitted may (take n x) in
@@ -99,7 +99,7 @@ module _ (pools : ℕ → Bool) where
   lie-labelled p n at (b ∷ bytes) lies =
       lie-fresh p (take n (drop at (b ∷ bytes))) (both-true (pools p) (lie_in pools (labelled p bytes)) lies).0
 
-  -- what is read
+  -- the text that a read returns
   lie-read : (s : State) (by : ℕ) (o : Option Descriptor) (n : ℕ) → Lie (read_from s o)
       → Lie (reading.read_text s by o n)
   lie-read s by (Some (on.File f at mode)) n lies = lie-labelled (file s f).pool n at (content s f) lies
@@ -146,7 +146,7 @@ module _ (pools : ℕ → Bool) where
           (let two : (m == b) ≡ true = grind (arith, other, is) in
           second (sym (same-number m b two) ∙ ap second_agg step.1))
 
-  -- one that is given to its own domain, or to another
+  -- an aggregate that is given, to the giver itself or to another domain
   lie-given : (s t : State) (d a to n b : ℕ) → IsOrderly s
       → StepsTo s (event.Call d (call.AggGive a to)) (reply.Agg n) t → (n == b) ≡ true → Lie (text s d a)
       → Lie (text t to b)
@@ -194,7 +194,7 @@ module _ (pools : ℕ → Bool) where
       lie-made mid t d b a (domain mid d).aggs tx live none (ap number step.1 ∙ sym next) step.2 is
       (lie-read s d o n lies)
 
-  -- an aggregate that a call brings to its own domain
+  -- an aggregate that a call creates for its caller
   lie-brought : (s t : State) (d : ℕ) (k : Call) (n a : ℕ) → IsOrderly s → StepsTo s (event.Call d k) (reply.Agg n) t
       → gives_away k ≡ false → (n == a) ≡ true → Lie (taken_from s (event.Call d k)) → Lie (text t d a)
   lie-brought s t d (call.AggMake bytes) n a order step own is lies =
@@ -227,7 +227,7 @@ module _ (pools : ℕ → Bool) where
   brings-both : (by d n a : ℕ) → ((by == d) && (n == a)) ≡ true → (by ≡ d) × ((n == a) ≡ true)
   brings-both by d n a is = (let two = both-true (by == d) (n == a) is in (same-number by d two.0, two.1))
 
-  -- an aggregate that an event brings
+  -- an aggregate that an event creates, for any domain
   lie-new : (s t : State) (e : Event) (r : Reply) (d a : ℕ) → IsOrderly s → StepsTo s e r t → brings e r d a ≡ true
       → Lie (taken_from s e) → Lie (text t d a)
   lie-new s t (event.Call by (call.AggGive x to)) (reply.Agg n) d a order step is lies =
@@ -250,7 +250,7 @@ module _ (pools : ℕ → Bool) where
       by None is = subst (λ (o : Option Text). Lie (unwrap_or o [])) (sym is) refl
       by (Some x) is = (let e = ap (λ (o : Option Text). option_map bytes_of o) is in absurd (cc (e, none)))
 
-  -- one that was there stays as it was, or is gone
+  -- an aggregate that existed before is unchanged, or gone
   lie-old : (s t : State) (e : Event) (r : Reply) (d a : ℕ) → IsOrderly s → StepsTo s e r t → brings e r d a ≡ false
       → Lie (text s d a) → Lie (text t d a)
   lie-old s t e r d a order step un lies = by (aggregate s d a) refl (gives_up e d a) refl (is_refusal r) refl

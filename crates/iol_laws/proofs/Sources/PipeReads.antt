@@ -19,7 +19,7 @@ use Rattle.iol_laws.specs.Sources.{MayReadAll, lie_in}
 use Rattle.iol_laws.proofs.Refusals.Calls.{left, may}
 use Rattle.iol_laws.proofs.Streams.Labels.{IsOther, barred-none}
 
--- what may be read, at most so much of it
+-- each of the first n bytes may be read
 seen : (pools : ℕ → Bool) (s : State) (d n : ℕ) (t : Text) → MayReadAll s d pools → lie_in pools t ≡ true
     → list_all (λ b. may_read s d b.1) (take n t) ≡ true
 seen pools s d n t all lies =

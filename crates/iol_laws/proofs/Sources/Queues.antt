@@ -20,7 +20,7 @@ module _ (pools : ℕ → Bool) (p : ℕ) where
   abbrev LieIn : State → Type 0
   LieIn s = Lie pools (pipe_at s p).queue
 
-  -- bytes that are copied to a pipe lie in the writer's default pool
+  -- bytes that are copied to a pipe are in the writer's default pool
   copied : (s : State) (by : ℕ) (o : Option Descriptor) (n : ℕ) (bytes : List ℕ)
       → Lie pools (labelled (default_pool s by) bytes) → is_write_end p o ≡ true
       → Lie pools (labelled (writing.pool_for s by o) (take n bytes))

@@ -61,7 +61,7 @@ pub accepted_outcome : (m : Meaning Reply) (old new : State) (r : Result Reply R
 accepted_outcome m old new (Ok a) c after was step = subst (λ (s : State). IsAccepted s c) (sym step.2) after
 accepted_outcome m old new (Err x) c after was step = subst (λ (s : State). IsAccepted s c) (sym step.1) was
 
--- each change of a call is one that may be made of what is open
+-- a change by a descriptor is allowed if it is allowed for each accepted, open connection
 allowed_one : (s : State) (d f : ℕ) (x : Change) → IsOrderly s
     → ((c : ℕ) → ((conn_at s c).accepted ≡ true) × ((conn_at s c).closed ≡ false) → IsAllowed s (c, x))
     → AllAllowed s (on_conn (descriptor s d f) x)

@@ -31,7 +31,7 @@ use Rattle.iol_laws.proofs.Streams.OtherCalls.{other_waiting}
 use Rattle.iol_laws.proofs.Streams.Outside.{does_arrive, does_transmit}
 use Rattle.iol_laws.proofs.Streams.Remains.{Went, went-out}
 
--- What is accepted stays so, whatever happens.
+-- An accepted connection stays accepted, whatever the event.
 
 accepted_conn_new : (s : State) (p c : ℕ) → c < s.next_conn → IsAccepted s c → IsAccepted (conn_new s p).after c
 accepted_conn_new s p c made was =
@@ -66,7 +66,7 @@ accepted_run old new es rs c order run made was =
     (orderly_step s t e r has.0 step, omega (arith, made, more), accepted_step s t e r c has.0 step made has.2)))
     old new es rs (order, made, was) run).2
 
--- A step at which it goes on waiting.
+-- Steps after which the connection is still not accepted.
 
 unread_all_same : (s t : State) (c : ℕ) → (conn_at t c).incoming ≡ (conn_at s c).incoming → IsAllUnread s c [] [] t
 unread_all_same s t c same =
@@ -76,7 +76,7 @@ unread_all_same s t c same =
           refl;
     }
 
--- what is found under a number is made
+-- the number of a connection that is not accepted is below the next one
 made_of : (s : State) (c : ℕ) → IsOrderly s → (conn_at s c).accepted ≡ false → c < s.next_conn
 made_of s c order waits = elim (cases_lt c s.next_conn) [
   | inl made ↦ made
@@ -134,7 +134,7 @@ unread_all_transmit s t e max (reply.Refused x) c order step waits =
     unread_all_same s t c (ap (λ (u : State). (conn_at u c).incoming) step.1)
 unread_all_transmit s t e max r c order step waits = (let e = step.1 in absurd (cc))
 
--- the peer closes; what is forgotten waits no more
+-- a change that keeps the input, for a connection that is not accepted afterwards
 unread_all_with_conn : (s : State) (e : ℕ) (x : Connection) (c : ℕ) → Once s.conns → x.incoming ≡ (conn_at s e).incoming
     → (conn_at (with_conn s e x) c).accepted ≡ false → (conn_at (with_conn s e x) c).incoming ≡ (conn_at s c).incoming
 unread_all_with_conn s e x c once x_is waits = elim (cases_eq e c) [
@@ -161,7 +161,7 @@ unread_all_peer_closed s t e how (Ok a) c order step waits =
 unread_all_peer_closed s t e how (Err x) c order step waits =
     unread_all_same s t c (ap (λ (u : State). (conn_at u c).incoming) step.1)
 
--- what changes nothing
+-- an event that changes nothing
 unread_all_after : (s t : State) (m : Meaning Reply) (r : Result Reply Refusal) (c : ℕ) → m.after ≡ s → Step m s r t
     → IsAllUnread s c [] [] t
 unread_all_after s t m (Ok a) c same step =

@@ -27,7 +27,7 @@ use Rattle.iol_laws.proofs.Texts.{bytes-append}
 use Rattle.iol_laws.proofs.Streams.UnsentBytes.{IsLonger, longer_same, longer_meant}
 use Rattle.iol_laws.proofs.Streams.UnreadBytes.{IsRest, rest_same, rest_meant}
 
--- In parts.
+-- Runs in parts.
 
 pub stream-append : (old now : State) (past future : List Event) (rs qs : List Reply) (c : ℕ) → Run old past rs now
     → stream_of c (past ++ future) (rs ++ qs) ≡ stream_of c past rs ++ stream_of c future qs
@@ -43,7 +43,7 @@ sent-append old now past future rs qs c run =
     reported-append (λ e r. sent_by c e r) (λ es qs. sent_of c es qs) (record { none = refl; next = λ e r es rs. refl })
     past future rs qs (run-even old now past rs run)
 
--- What is unread.
+-- Unread bytes.
 
 end_of_rest : (s t : State) (c : ℕ) → IsRest s t c
     → IsEndOf (bytes_of (conn_at s c).incoming) [] (bytes_of (conn_at t c).incoming)
@@ -59,7 +59,7 @@ end_outcome m old new (Ok a) c rest step = subst (λ (s : State). IsRest old s c
 end_outcome m old new (Err x) c rest step =
     subst (λ (s : State). IsRest old s c) (sym step.1) (rest_same old old c refl)
 
--- bytes that arrive stand at the end
+-- arriving bytes are at the end of the input
 end_arrive : (s t : State) (e : ℕ) (bytes : List ℕ) (r : Reply) (c : ℕ) → IsOrderly s
     → StepsTo s (event.Arrive e bytes) r t
     → IsEndOf (bytes_of (conn_at s c).incoming) (came_by c (event.Arrive e bytes) r) (bytes_of (conn_at t c).incoming)
@@ -106,7 +106,7 @@ unread_run old new (e ∷ es) (r ∷ rs) c order run =
 unread_run old new [] (r ∷ rs) c order run = absurd run
 unread_run old new (e ∷ es) [] c order run = absurd run
 
--- What is to be sent.
+-- Queued output.
 
 first_of_longer : (s t : State) (c : ℕ) → IsLonger s t c
     → GoesFirst (bytes_of (conn_at s c).outgoing) [] (bytes_of (conn_at t c).outgoing)
@@ -121,7 +121,7 @@ longer_outcome m old new (Ok a) c longer step = subst (λ (s : State). IsLonger 
 longer_outcome m old new (Err x) c longer step =
     subst (λ (s : State). IsLonger old s c) (sym step.1) (longer_same old old c refl)
 
--- a segment is taken from the front
+-- a segment is taken from the front of the output
 first_transmit : (s t : State) (e max : ℕ) (r : Reply) (c : ℕ) → IsOrderly s → StepsTo s (event.Transmit e max) r t
     → GoesFirst (bytes_of (conn_at s c).outgoing) (sent_by c (event.Transmit e max) r) (bytes_of (conn_at t c).outgoing)
 first_transmit s t e max (reply.Segment bytes sum) c order step = by (e == c) refl

@@ -41,7 +41,7 @@ home_each s c home = list_all-lookup is_in_pool s.conns c _ refl home
 home_conn : (s : State) (c : ℕ) (x : Connection) → is_in_pool x ≡ true → AreInOwnPool s → AreInOwnPool (with_conn s c x)
 home_conn s c x new home = list_all-with_conn is_in_pool s c x new home
 
--- bytes come in behind the others
+-- bytes of this pool are appended to others
 home-more : (p : ℕ) (t : Text) (bytes : List ℕ) → lies_in p t ≡ true → lies_in p (t ++ labelled p bytes) ≡ true
 home-more p t bytes home =
     list_all-both (λ b. b.1 == p) t (labelled p bytes) home (list_all-labelled (λ q. q == p) p bytes (itself p))
@@ -77,7 +77,7 @@ pub home_reached : (slots : List (List ℕ)) (t : State) (es : List Event) (rs :
 home_reached slots t es rs run =
     run_keeps (λ s. AreInOwnPool s) home_step (new_state slots) t es rs (home_new slots) run
 
--- Who may read the pool is never denied.
+-- A domain that may read the pool is never denied.
 
 abbrev pub is_other : Refusal → Bool
 is_other (refuse.Denied p) = false
@@ -95,7 +95,7 @@ barred-none may (b ∷ t) all = by (may b.1) refl (barred-none may t)
     by false is rest = absurd (let e : list_all (λ x. may x.1) (b ∷ t) ≡ false = grind (arith, common_steps, is) in
         cc (e, all))
 
--- a byte of a pool that it may read
+-- a pool that equals one that the domain may read
 read-of : (s : State) (d p q : ℕ) → may_read s d p ≡ true → (q == p) ≡ true → may_read s d q ≡ true
 read-of s d p q may_see is =
     (let same : p ≡ q = grind (arith, nat_tests, is) in subst (λ n. may_read s d n ≡ true) same may_see)

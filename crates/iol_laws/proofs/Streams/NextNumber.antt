@@ -14,7 +14,7 @@ unfolding with_domain with_pipe with_conn with_content
 next_changed s (NewConn p) = omega arith
 next_changed s c = omega arith
 
--- the next number rises, or stays
+-- the next number does not fall
 next_meant : (s : State) (e : Event) → s.next_conn ≤ (meaning s e).after.next_conn
 next_meant s e =
     kept_always (λ t. s.next_conn ≤ t.next_conn)

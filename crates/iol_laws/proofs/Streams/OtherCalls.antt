@@ -61,7 +61,7 @@ other_conn s t d k r c order step never free =
     (both-false (list_any (is_conn c) (operands s (event.Call d k))) false
     (operands-none (is_conn c) s d k (λ f. not-on c (descriptor s d f) (never f))) refl)
 
--- a connection that waits is left, or accepted
+-- a waiting connection is unchanged, or accepted
 pub other_waiting : (s t : State) (d : ℕ) (k : Call) (r : Reply) (c : ℕ) → IsOrderly s → StepsTo s (event.Call d k) r t
     → (conn_at s c).accepted ≡ false → (conn_at t c ≡ conn_at s c) ⊎ ((conn_at t c).accepted ≡ true)
 other_waiting s t d k r c order step waits = by k r step

@@ -32,15 +32,15 @@ use Rattle.iol_laws.proofs.Tests.{apart, both-false, left-true, right-true}
 abbrev IsOpen : State → (p : ℕ) → Type 0
 IsOpen s p = ((pipe_at s p).reading || (pipe_at s p).writing) ≡ true
 
--- an open pipe is not the next one
+-- the number of an open pipe is not that of the next one
 not-next : (s : State) (p : ℕ) → IsOpen s p → lowest s.pipes ≢ p
 unfolding pipe_at
 not-next s p lives same =
     (let e = ap (λ (o : Option Pipe). (unwrap_or o no_pipe).reading || (unwrap_or o no_pipe).writing)
     (sym (ap (λ n. in_place s.pipes n) same) ∙ lowest-free s.pipes) in cc (e, lives))
 
--- What holds of a pipe while it is open, and of each state in which it is the same, holds after a call of a domain
--- without the end that may change it.
+-- A property of an open pipe that depends only on this pipe is preserved by calls of a domain without the end that may
+-- change it.
 module _ (p : ℕ) (Holds : State → Type 0) (lives : (t : State) → Holds t → IsOpen t p) (goes : (t u : State)
     → pipe_at u p ≡ pipe_at t p → Holds t → Holds u)
     (test : Change → Bool) (on_it : (t : State) (x : OfPipe) → test (OnPipe p x) ≡ false → Holds t
@@ -70,7 +70,7 @@ module _ (p : ℕ) (Holds : State → Type 0) (lives : (t : State) → Holds t �
   holds_after s t d k (reply.Refused x) step never here = subst Holds (sym step.1) here
   holds_after s t d k r step never here = subst Holds (sym step.2) (holds_called s d k never here)
 
--- What stays unread: nobody takes bytes or closes the read end.
+-- Unread bytes remain, if the domain does not have the read end.
 
 abbrev takes_from : (p : ℕ) → Change → Bool
 takes_from p (OnPipe q (Takes n)) = q == p
@@ -132,7 +132,7 @@ others_unread s t d k r p step never reads =
     take_first s d (call.GiveFd fd to) = none_handed (takes_from p) d fd to (descriptor s d fd) refl (λ x. refl)
     take_first s d k = refl
 
--- What was written: nobody adds bytes or closes the write end.
+-- No bytes are added, if the domain does not have the write end.
 
 abbrev adds_to : (p : ℕ) → Change → Bool
 adds_to p (OnPipe q (Puts w)) = q == p
@@ -156,7 +156,7 @@ written_goes s p t u same went =
           ap (λ (k : Pipe). k.writing) same ∙ went.writing;
     }
 
--- the first bytes are taken
+-- bytes are taken from the front
 written_less : (s : State) (p : ℕ) (t : State) (x : Pipe) (gone : Text) → (pipe_at t p).queue ≡ gone ++ x.queue
     → x.writing ≡ (pipe_at t p).writing → GoesFromFront s p t → GoesFromFront s p (with_pipe t p x)
 written_less s p t x gone split same went =

@@ -133,7 +133,7 @@ does_peer_closed s t c how reply.Done order step =
 does_peer_closed s t c how (reply.Refused x) order step = step.1
 does_peer_closed s t c how r order step = (let e = step.1 in absurd (cc))
 
--- How many bytes come in, and how many are sent.
+-- The numbers of bytes received and sent.
 
 pub count_arrived : (s t : State) (c : ℕ) (bytes : List ℕ) (k : ℕ) → StepsTo s (event.Arrive c bytes) (reply.Count k) t
     → k ≡ min (length bytes) (MAX_QUEUE_BYTES - length (conn_at s c).incoming)

@@ -23,11 +23,11 @@ remains-either x = by (is_over x) refl
     by false over = inl refl
     by true over = inr (over, refl)
 
--- one that is over has nothing to be sent
+-- a connection that is over has no queued output
 none-over : (x : Connection) → is_over x ≡ true → x.outgoing ≡ []
 none-over x over = nothing-left x.outgoing (x.closed || (not x.accepted && is_gone x.peer)) over
 
--- one that is over was closed, or nobody had accepted it
+-- a connection that is over was closed, or was never accepted
 over-closed : (x : Connection) → is_over x ≡ true → (x.closed ≡ true) ⊎ (x.accepted ≡ false)
 over-closed x over = by x.closed x.accepted refl refl
   where
@@ -54,7 +54,7 @@ closed-then s t c did = elim (remains-either x) [
 
 -- ---- a segment is sent
 
--- what was to be sent is the segment and what still is; and nothing else of the connection changed, or it was closed
+-- the segment is the front of the queued output; nothing else of the connection changed, or it was closed
 pub record Went (s : State) (c : ℕ) (bytes : List ℕ) (t : State) : Type 0 where
   pub bytes_were : bytes_of (conn_at s c).outgoing ≡ bytes ++ bytes_of (conn_at t c).outgoing
   pub some : ((conn_at s c).outgoing ≡ []) → ⊥
@@ -95,12 +95,12 @@ went-out s t c max bytes order did = by (remains-either x)
 
 -- ---- its peer closes
 
--- it is forgotten
+-- a connection as after its removal
 pub record IsForgotten (c : ℕ) (t : State) : Type 0 where
   pub closed : (conn_at t c).closed ≡ true
   pub none : (conn_at t c).outgoing ≡ []
 
--- it is as that leaves it, or it is forgotten: nobody had accepted it, or it was closed
+-- the connection with its peer's close; or it is removed, because it was not accepted, or because it was closed
 abbrev pub LeavesPeer : State → (c : ℕ) → How → State → Type 0
 LeavesPeer s c how t = (conn_at t c ≡ closed_by (conn_at s c) how)
     ⊎ (((conn_at s c).accepted ≡ false) × ((conn_at s c).outgoing ≡ []) × IsForgotten c t)

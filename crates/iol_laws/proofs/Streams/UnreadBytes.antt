@@ -17,7 +17,7 @@ use Rattle.iol_laws.proofs.ConnChanges.{Change, Reads, Writes, Closes, Takes, tu
 use Rattle.iol_laws.proofs.ConnChanges.{once_turned}
 use Rattle.iol_laws.proofs.Connections.{conns_same, conns_conn, conn-push, conn-unmade, conn-made, after-with_conn}
 
--- bytes were taken from the front, or none
+-- some of the first bytes were taken, or none
 pub record IsRest (s t : State) (c : ℕ) : Type 0 where
   pub front : Text
   pub was : (conn_at s c).incoming ≡ front ++ (conn_at t c).incoming
@@ -36,7 +36,7 @@ rest_then s t u c one two = record {
 rest_conns : (s t : State) (c : ℕ) → t.conns ≡ s.conns → IsRest s t c
 rest_conns s t c same = rest_same s t c (conns_same s t (λ k. false) same c refl)
 
--- one connection changes, and of its unread bytes an end stays
+-- one connection changes, and the last of its unread bytes remain
 pub rest_with_conn : (s : State) (e : ℕ) (x : Connection) (c : ℕ) (front : Text) → Once s.conns
     → (conn_at s e).incoming ≡ front ++ x.incoming → IsRest s (with_conn s e x) c
 rest_with_conn s e x c front once was = elim (cases_eq e c) [
@@ -83,7 +83,7 @@ rest_conn_new s p c order = elim (cases_eq s.next_conn c) [
     none : lookup s.conns s.next_conn ≡ None
     none = order.conns s.next_conn (omega arith)
 
--- every event but an arrival
+-- whether the event is not an arrival
 abbrev pub brings_none : Event → Bool
 brings_none (event.Arrive e bytes) = false
 brings_none e = true

@@ -22,7 +22,7 @@ use Rattle.iol_laws.proofs.ConnChanges.{once_turned, IsAllowed, AllAllowed}
 use Rattle.iol_laws.proofs.Tests.{apart}
 use Rattle.iol_laws.specs.History.{drops_unsent}
 
--- bytes were written behind those that were to be sent, or none
+-- some bytes were appended to the queued output, or none
 pub record IsLonger (s t : State) (c : ℕ) : Type 0 where
   pub more : Text
   pub is : (conn_at t c).outgoing ≡ (conn_at s c).outgoing ++ more
@@ -36,7 +36,7 @@ longer_same s t c same = record { more = []; is = same ∙ sym (append-nil (conn
 out_conns : (s t : State) (c : ℕ) → t.conns ≡ s.conns → SameOut s t c
 out_conns s t c same = ap (λ (x : Connection). x.outgoing) (conns_same s t (λ k. false) same c refl)
 
--- one connection changes, and not what is to be sent on it
+-- one connection changes, but not its queued output
 pub out_with_conn : (s : State) (e : ℕ) (x : Connection) (c : ℕ) → Once s.conns → x.outgoing ≡ (conn_at s e).outgoing
     → SameOut s (with_conn s e x) c
 out_with_conn s e x c once x_is = elim (cases_eq e c) [
@@ -105,7 +105,7 @@ abbrev pub sends : Event → Bool
 sends (event.Transmit e max) = true
 sends e = false
 
--- every event that sends nothing on the connection and drops nothing
+-- an event that sends no segment and does not drop the connection's output
 pub longer_meant : (s : State) (e : Event) (c : ℕ) → IsOrderly s → sends e ≡ false → drops_unsent e c ≡ false
     → IsLonger s (meaning s e).after c
 longer_meant s (event.Call d k) c order none kept = longer_called s d k c order

@@ -11,7 +11,7 @@ use Rattle.iol_core.specs.declared.descriptors.Descriptor.TheVariants as on
 use Rattle.iol_laws.specs.Order.{Once, IsOrderly}
 use Rattle.iol_laws.proofs.Connections.{conn-found}
 
--- what is found waits
+-- the connection that is found under a test passes the test
 found-is : (es : List (ℕ × Connection)) (c : ℕ) (f : Connection → Bool) → Once es
     → option_map (λ e. e.0) (find (λ e. f e.1) es) ≡ Some c → (x : Connection) × (lookup es c ≡ Some x) × (f x ≡ true)
 found-is [] c f once is = absurd (cc)

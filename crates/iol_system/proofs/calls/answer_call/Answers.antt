@@ -1,4 +1,4 @@
--- What each call does, by what the kernel says of it.
+-- The effect of each call, from the kernel's contract.
 use Rattle.std.proofs.Common.{refl, subst, ℕ, List}
 use Rattle.iol_core.specs.Calls.Domains as domains
 use Rattle.iol_core.specs.Calls.Pools as pools

@@ -1,4 +1,4 @@
--- What the call does, by what the kernel says of it.
+-- The effect of the call, from the kernel's contract.
 use Rattle.std.proofs.Common.{refl}
 use Rattle.iol_core.specs.declared.events.Call.TheVariants as call
 use Rattle.iol_kernel.specs.Kernel.{state_of}

@@ -104,7 +104,7 @@ pub returns-in-Call : goal.returns-in-Call
 returns-in-Call g c =
     rw (← c.self.view_is) (promises_kept _ _ _ _ c.self.invariant (as_event c.in-Call.is refl c.answer_call.ensures))
 
--- and the system is safe then
+-- the system is safe afterwards
 pub invariant_of-self-in-ConnNew : goal.invariant_of-self-in-ConnNew
 invariant_of-self-in-ConnNew g c = (returns-in-ConnNew g c).safe
 
