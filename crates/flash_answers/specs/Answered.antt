@@ -20,13 +20,16 @@ pub record ServesSites (starts : WorldState SystemState (Actor Worker) → Type 
   pub honest : (world : WorldState SystemState (Actor Worker)) → starts world → IsTrue world.machine.disk.honest
   pub framed : (bytes : List ℕ) (frame : Frame) → frames bytes frame → Framed bytes frame
 
--- The bytes that a client's socket accepted are a prefix of an answer to those that it supplied, by some sites in turn.
--- They are an answer if its output was ended after its requests were answered to the end.
-pub record HasAnswers {S : Type 0} (supplied accepted : S → Option (List ℕ)) (c : Client S) : Type 0 where
-  pub begins : (from to : List ℕ) → supplied c.socket ≡ Some from → accepted c.socket ≡ Some to → ∥ IsBegun from to ∥₁
+-- The bytes that a client's socket accepted are a prefix of an answer to those that it supplied, by the sites of worlds
+-- that begin so, in turn. They are an answer if its output was ended after its requests were answered to the end.
+pub record HasAnswers {S : Type 0} (starts : WorldState SystemState (Actor Worker) → Type 0)
+    (supplied accepted : S → Option (List ℕ)) (c : Client S) : Type 0 where
+  pub begins : (from to : List ℕ) → supplied c.socket ≡ Some from → accepted c.socket ≡ Some to
+      → ∥ IsBegun starts from to ∥₁
   pub whole : (from to : List ℕ) → supplied c.socket ≡ Some from → accepted c.socket ≡ Some to → c.phase ≡ Closing
-      → IsTrue c.is_whole → ∥ IsAnswered from to ∥₁
+      → IsTrue c.is_whole → ∥ IsAnswered starts from to ∥₁
 
 -- The same for sockets of a type whose bytes are known.
-abbrev pub IsAnsweredClient : {S : Type 0} → (supplied accepted : S → Option (List ℕ)) → Client S → Type 0
-IsAnsweredClient supplied accepted c = AreKnown supplied accepted → HasAnswers supplied accepted c
+abbrev pub IsAnsweredClient : {S : Type 0} → (starts : WorldState SystemState (Actor Worker) → Type 0)
+    → (supplied accepted : S → Option (List ℕ)) → Client S → Type 0
+IsAnsweredClient starts supplied accepted c = AreKnown supplied accepted → HasAnswers starts supplied accepted c

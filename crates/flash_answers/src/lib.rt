@@ -7,6 +7,7 @@
 
 ghost use Rattle.std.specs.Prelude.{◌≡◌, get_or, None, Some, IfNone, IfSome};
 ghost use Rattle.flash_laws.specs.Site.{net_pool};
+ghost use Rattle.flash_site.specs.World.{BeginsSite};
 ghost use Rattle.flash_answers.specs.Answered.{IsAnsweredClient, ServesSites};
 ghost use Rattle.flash_answers.specs.Clients.{ClientsAreAnswered};
 ghost use Rattle.flash_answers.specs.Sites.{SitesAnswer};
@@ -36,11 +37,11 @@ pub fn sites_answer()
 
 /// A client of the event loop left each of its connections except the last after whole requests
 /// that keep it, in worlds of sites over honest stores. Then the bytes that its socket accepted are
-/// a prefix of an answer to those that it supplied, by these sites in turn. They are an answer if
-/// it accepted all, and either a request closed the last connection, or it was left and no complete
+/// a prefix of an answer to those that it supplied, by sites in turn. They are an answer if it
+/// accepted all, and either a request closed the last connection, or it was left and no complete
 /// request waits. The function has no effect; its contract is the law.
 pub fn clients_are_answered()
-    ensures { ClientsAreAnswered }
+    ensures { ClientsAreAnswered BeginsSite }
 {
     sites_answer();
     requests_are_kept();
@@ -57,8 +58,9 @@ pub trait HonestSites<B: Backing>: Service<B, Actor> {
 
 /// The client in this place of an event loop that serves sites over honest stores. If the bytes of
 /// its sockets are known, then the bytes that the client's socket accepted are a prefix of an
-/// answer to those that it supplied, by some sites in turn. They are an answer if its output was
-/// ended after its requests were answered to the end.
+/// answer to those that it supplied, by the sites of worlds that the service allows, in turn. They
+/// are an answer if its output was ended after its requests were answered to the end. A service
+/// that allows only the worlds of one site (`Service::starts`) so gets the answers of this site.
 pub fn client<'a, S: Socket + Drop, B: Backing + Drop, V: HonestSites<B>>(
     engine: &'a Engine<S, B, Actor, V>,
     slot: usize,
@@ -67,8 +69,10 @@ pub fn client<'a, S: Socket + Drop, B: Backing + Drop, V: HonestSites<B>>(
         (λ c. get_or engine.entry.now.places.clients.items slot None ≡ Some c.now) }
     ensures none { IfNone result
         (get_or engine.entry.now.places.clients.items slot None ≡ None) }
-    ensures answers { IfSome result (λ c. IsAnsweredClient S.supplied S.accepted c.now) }
+    ensures answers { IfSome result (λ c. IsAnsweredClient V.starts S.supplied S.accepted c.now) }
 {
-    clients_are_answered();
+    sites_answer();
+    requests_are_kept();
+    clients_get_answers();
     engine.client(slot)
 }

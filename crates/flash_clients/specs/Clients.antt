@@ -74,9 +74,9 @@ InTurn Last (x ∷ []) s bytes = Last x s bytes
 InTurn Last (x ∷ y ∷ xs) s bytes = Splits x (λ t more. InTurn Last (y ∷ xs) t more) s bytes
 
 -- the bytes are a prefix of such
-pub record BeginsInTurn (shelves : List SiteContents) (s bytes : List ℕ) : Type 0 where
+pub record BeginsInTurn (sites : List SiteContents) (s bytes : List ℕ) : Type 0 where
   pub more : List ℕ
-  pub begins : InTurn Begins shelves s (bytes ++ more)
+  pub begins : InTurn Begins sites s (bytes ++ more)
 
 -- ---- the law
 

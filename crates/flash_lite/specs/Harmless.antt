@@ -17,7 +17,7 @@ use Rattle.flash_laws.specs.World.{AreFair}
 use Rattle.flash_laws.specs.World.Fair.{any_refusal, no_refusal}
 use Rattle.flash_laws.specs.World.Host.{IsRight}
 use Rattle.flash_lite.specs.WorkerSet.{worker_set_of}
-use Rattle.flash_lite.specs.HostedSite.{HasFairTurns, Hosts, IsMildlyUsed, refusals_of}
+use Rattle.flash_lite.specs.HostedSite.{HasFairTurns, Hosts, PreservesSite, refusals_of}
 use Rattle.flash_lite.specs.Library.{library_of}
 use Rattle.flash_lite.specs.Setup.{workers_used}
 use Rattle.flash_lite.specs.declared.site.Site.{Site}
@@ -44,7 +44,7 @@ abbrev pub HarmlessIsSitePreserving : Type 0
 HarmlessIsSitePreserving = (s : Site) (slots : List (List ℕ)) (xs : List Choice) (rs : List Reply) (turns : ℕ)
     (idle : Bool) (after : WorldState State (Actor Worker)) (hosts : Hosts s slots xs rs turns idle after)
     → (refuses : Refusals) → AreHarmless s xs → AreFair refuses xs rs
-    → IsMildlyUsed s slots xs rs turns idle after hosts
+    → PreservesSite s slots xs rs turns idle after hosts
 
 -- So a site hosted with them is right, for the input of these choices: the turns in rounds after them add none.
 module _ (s : Site) (slots : List (List ℕ)) (xs : List Choice) (rs : List Reply) (turns : ℕ) (idle : Bool)

@@ -11,7 +11,7 @@ use Rattle.flash_laws.specs.World.Consistency.{Actor}
 use Rattle.flash_progress.specs.Bound.{turns_that_suffice}
 use Rattle.flash_progress.specs.Served.{AreServed, CanPlace, NoneLacksResource, clients_in}
 use Rattle.flash_lite.specs.WorkerSet.{worker_set_of}
-use Rattle.flash_lite.specs.HostedSite.{HasFairTurns, Hosts, IsMildlyUsed}
+use Rattle.flash_lite.specs.HostedSite.{HasFairTurns, Hosts, PreservesSite}
 use Rattle.flash_lite.specs.Library.{library_of}
 use Rattle.flash_lite.specs.Setup.{workers_used}
 use Rattle.flash_lite.specs.declared.site.Site.{Site}
@@ -22,7 +22,7 @@ pub record IsHostedLongEnough (s : Site) (slots : List (List ℕ)) (xs : List Ch
     (idle : Bool)
     (after : WorldState State (Actor Worker)) (hosts : Hosts s slots xs rs turns idle after) : Type 0 where
   pub files : workers_used s ≡ 0
-  pub site_preserving : IsMildlyUsed s slots xs rs turns idle after hosts
+  pub site_preserving : PreservesSite s slots xs rs turns idle after hosts
   pub places : CanPlace hosts.mid.machine
   pub lacks_none : NoneLacksResource hosts.ends.went
   pub suffices : turns_that_suffice hosts.mid.machine (clients_in hosts.mid) ≤ turns

@@ -70,8 +70,8 @@ HostsIfHonest store s xs rs turns idle after =
 module _ (s : Site) (slots : List (List ℕ)) (xs : List Choice) (rs : List Reply) (turns : ℕ) (idle : Bool)
     (after : WorldState State (Actor Worker)) (hosts : Hosts s slots xs rs turns idle after) where
   -- external calls were site-preserving
-  abbrev pub IsMildlyUsed : Type 0
-  IsMildlyUsed = AreSitePreserving (actor_turns in_rounds worker_turns) hosts.first xs rs hosts.mid hosts.run
+  abbrev pub PreservesSite : Type 0
+  PreservesSite = AreSitePreserving (actor_turns in_rounds worker_turns) hosts.first xs rs hosts.mid hosts.run
 
   -- the turns among the choices, and those in rounds, were fair if these refusals are allowed
   abbrev pub HasFairTurns : (refuses : Refusals) → Type 0
@@ -92,13 +92,13 @@ module _ (s : Site) (slots : List (List ℕ)) (xs : List Choice) (rs : List Repl
   -- A hosted site is right if external calls were site-preserving.
   pub record IsRightAsHosted : Type 0 where
     -- if its turns got no other refusals
-    pub fair : (refuses : Refusals) → IsMildlyUsed → HasFairTurns refuses → IsRightAfter refuses
+    pub fair : (refuses : Refusals) → PreservesSite → HasFairTurns refuses → IsRightAfter refuses
     -- with none, if the world's failure flag is clear
-    pub failure_free : IsMildlyUsed → IsFalse after.resource_failure → IsRightAfter no_refusal
+    pub failure_free : PreservesSite → IsFalse after.resource_failure → IsRightAfter no_refusal
     -- with those that the turns of the server and the workers got, whatever was refused
-    pub own : IsMildlyUsed → IsRightAfter refusals_of
+    pub own : PreservesSite → IsRightAfter refusals_of
     -- with TooMany, NoRoom, Fault and Memory, whatever was refused
-    pub any : IsMildlyUsed → IsRightAfter any_refusal
+    pub any : PreservesSite → IsRightAfter any_refusal
 
 abbrev pub HostedIsRight : Type 0
 HostedIsRight = (s : Site) (slots : List (List ℕ)) (xs : List Choice) (rs : List Reply) (turns : ℕ)

@@ -1,6 +1,7 @@
 -- The world of a site of some files over some store.
 use Rattle.std.proofs.Common.{ℕ, List}
 use Rattle.iol_back.specs.Disk.{Disk}
+use Rattle.iol_core.specs.declared.configuration.TheConstants.Config.{DEFAULT}
 use Rattle.iol_proc.specs.World.{WorldState}
 use Rattle.iol_system.specs.Machine.{SystemState}
 use Rattle.flash_cgi.specs.declared.worker.Worker.{Worker}
@@ -9,4 +10,4 @@ use Rattle.flash_site.specs.World.{BeginsSite, IsWorldOf}
 
 pub begins_site : (names : List (List ℕ)) (store : Disk) (world : WorldState SystemState (Actor Worker))
     → IsWorldOf names store world → BeginsSite world
-begins_site names store world is = ∣ record { names = names; store = store; is = is } ∣₁
+begins_site names store world is = ∣ record { config = DEFAULT; names = names; store = store; is = is } ∣₁

@@ -1,6 +1,7 @@
 -- The world of a site of files.
 use Rattle.std.specs.Prelude.{ℕ, Bool, List, [], IsTrue}
 use Rattle.iol_back.specs.Disk.{Disk}
+use Rattle.iol_core.specs.declared.configuration.Config.{Config}
 use Rattle.iol_core.specs.declared.configuration.TheConstants.Config.{DEFAULT}
 use Rattle.iol_core.specs.declared.events.Reply.{Reply}
 use Rattle.iol_proc.specs.World.{WorldState}
@@ -11,23 +12,28 @@ use Rattle.flash_lite.specs.HostedSite.{HostsIfHonest, HostsOver}
 use Rattle.flash_lite.specs.Prelude.{AreFilesOf}
 use Rattle.flash_lite.specs.declared.site.Site.{Site}
 
--- The world of a site of these files over a store, before its first turn: it was set up in a new system with the
--- default parameters, without any other event. Over an honest store it is the site's world in the copying machine, to
--- which the server's laws apply.
-pub record IsWorldOf (names : List (List ℕ)) (store : Disk) (world : WorldState SystemState (Actor Worker)) :
-    Type 0 where
+-- The world of a site of these files over a store, before its first turn: it was set up in a new system with these
+-- parameters, without any other event. Over an honest store it is the site's world in the copying machine, to which
+-- the server's laws apply.
+pub record IsWorldWith (config : Config) (names : List (List ℕ)) (store : Disk)
+    (world : WorldState SystemState (Actor Worker)) : Type 0 where
   pub site : Site
   pub files : AreFilesOf names site.files.items
   pub replies : List Reply
   pub idle : Bool
-  pub over : HostsOver DEFAULT store site [] replies 0 idle world
+  pub over : HostsOver config store site [] replies 0 idle world
   pub honest : HostsIfHonest store site [] replies 0 idle world
 
--- A world of some site over some store, before its first turn.
+-- the same with the default parameters
+abbrev pub IsWorldOf : (names : List (List ℕ)) (store : Disk) (world : WorldState SystemState (Actor Worker)) → Type 0
+IsWorldOf names store world = IsWorldWith DEFAULT names store world
+
+-- A world of some site over some store, before its first turn, with any parameters.
 pub record IsSiteWorld (world : WorldState SystemState (Actor Worker)) : Type 0 where
+  pub config : Config
   pub names : List (List ℕ)
   pub store : Disk
-  pub is : IsWorldOf names store world
+  pub is : IsWorldWith config names store world
 
 abbrev pub BeginsSite : (world : WorldState SystemState (Actor Worker)) → Type 0
 BeginsSite world = ∥ IsSiteWorld world ∥₁

@@ -23,11 +23,11 @@ use Rattle.iol_proc.specs.declared.process_slot.ProcessSlot.{ProcessSlot}
 
 -- the machine that copies at every call
 abbrev pub copying : Machine State
-copying = record { Step = StepsTo; is_readable = readable_to }
+copying = record { Step = StepsTo; readable_bytes = readable_to }
 
 -- a system, with all guarantees of each of its steps
 abbrev pub sharing : Machine SystemState
-sharing = record { Step = Promises; is_readable = λ s by. readable_to (machine_of s) by }
+sharing = record { Step = Promises; readable_bytes = λ s by. readable_to (machine_of s) by }
 
 -- a machine, its processes, each with its last reply, and whether a turn got a resource refusal
 pub record WorldState (M P : Type 0) : Type 0 where

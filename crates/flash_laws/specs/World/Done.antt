@@ -79,7 +79,7 @@ pub record IsDone (site_contents : SiteContents) (workers : ℕ) (m : State) (p 
       → IsTrue (conn_at m c).closed ⊎ IsHeldUp m c ⊎ AwaitsWorker site_contents workers m p clients c
       ⊎ (((conn_at m c).peer ≡ None) × StaysOpen (p.came c))
   -- a client that uses an aggregate is blocked by a full output queue
-  pub is_readable : (fd a : ℕ) (x : Client) → in_place clients fd ≡ Some x → IsTrue (uses_agg x a) → IsHeldUpAt m fd
+  pub held_up : (fd a : ℕ) (x : Client) → in_place clients fd ≡ Some x → IsTrue (uses_agg x a) → IsHeldUpAt m fd
   -- and each aggregate of the server is used by such a client, or an external call gave it
   pub owned : (a : ℕ) → IsReadable m a → ((used : IsUsed clients a) × IsHeldUpAt m used.fd) ⊎ IsTrue (p.given a)
 

@@ -298,8 +298,8 @@ module _ (site_contents : SiteContents) (worker_set : WorkerSet) (laws : AllLaws
   closes c net was (inr (inr (inl ended))) = inl ended.closed
 
   -- a client that uses an aggregate is held up
-  is_readable : (fd a : ℕ) (x : Client) → in_place clients fd ≡ Some x → uses_agg x a ≡ true → IsHeldUpAt m fd
-  is_readable fd a x is uses = by (place-left fd x is)
+  held_up : (fd a : ℕ) (x : Client) → in_place clients fd ≡ Some x → uses_agg x a ≡ true → IsHeldUpAt m fd
+  held_up fd a x is uses = by (place-left fd x is)
     where
       by : Left (all.each fd x is).conn x → IsHeldUpAt m fd
       by (inl rests) = absurd (clash (uses_agg x a) uses (rests.none a))
@@ -314,7 +314,7 @@ module _ (site_contents : SiteContents) (worker_set : WorkerSet) (laws : AllLaws
   owned a readable =
       elim (all_owned a readable) [
         | inl used ↦
-            inl (used, is_readable used.fd a used.client used.at used.uses)
+            inl (used, held_up used.fd a used.client used.at used.uses)
         | inr given ↦ inr given
       ]
 
@@ -323,7 +323,7 @@ module _ (site_contents : SiteContents) (worker_set : WorkerSet) (laws : AllLaws
     accepted = λ c net. accepted c net (all.others c);
     answered = λ c net was live. answered c net was live (all.others c);
     closes = λ c net was. closes c net was (all.others c);
-    is_readable = is_readable;
+    held_up = held_up;
     owned = owned;
   }
 

@@ -7,7 +7,7 @@ use Rattle.flash_cgi.specs.declared.worker.Worker.{Worker}
 use Rattle.flash_laws.specs.SiteContents.{Refusals}
 use Rattle.flash_laws.specs.World.Consistency.{Actor}
 use Rattle.flash_laws.specs.World.Fair.{any_refusal, no_refusal}
-use Rattle.flash_lite.specs.HostedSite.{HasFairTurns, Hosts, IsMildlyUsed, IsRightAfter, refusals_of}
+use Rattle.flash_lite.specs.HostedSite.{HasFairTurns, Hosts, PreservesSite, IsRightAfter, refusals_of}
 use Rattle.flash_lite.specs.Library.{library_of}
 use Rattle.flash_lite.specs.declared.site.Site.{Site}
 use Rattle.flash_lite.proofs.World.FairTurns.{any-turns, own-turns, failure_free-turns}
@@ -16,7 +16,7 @@ use Rattle.flash_lite.proofs.laws.hosted_is_right.Goals as goal
 fair-right : (c : goal.After-runs_are_fair) (s : Site) (slots : List (List ℕ)) (xs : List Choice) (rs : List Reply)
     (turns : ℕ) (idle : Bool)
     (after : WorldState State (Actor Worker)) (hosts : Hosts s slots xs rs turns idle after) (refuses : Refusals)
-    → IsMildlyUsed s slots xs rs turns idle after hosts → HasFairTurns s slots xs rs turns idle after hosts refuses
+    → PreservesSite s slots xs rs turns idle after hosts → HasFairTurns s slots xs rs turns idle after hosts refuses
     → IsRightAfter s slots xs rs turns idle after hosts refuses
 fair-right c s slots xs rs turns idle after hosts refuses site_preserving fair =
     c.connections_do_not_meet.ensures.host s c.idle_is_quiescent.ensures (library_of s slots refuses) xs rs hosts.first
