@@ -24,3 +24,5 @@ pub record SetsLimits {E : Type 0} (reads : List ℕ → Result ℕ E → Type 0
         × (limits.head_millis ≡ option_map_or (λ n. n * 1000) seconds DEFAULT.head_millis)
     pub rate : (bytes : Option ℕ) × ReadsText reads (one_text found (codes "min-rate")) bytes
         × (limits.min_rate ≡ unwrap_or bytes DEFAULT.min_rate)
+    pub retires : (seconds : Option ℕ) × ReadsText reads (one_text found (codes "retire-timeout")) seconds
+        × (limits.retire_millis ≡ option_map_or (λ n. n * 1000) seconds DEFAULT.retire_millis)

@@ -108,6 +108,7 @@ fn limits_of(matches: &ArgMatches<'_>) -> Limits
         idle_millis: millis_of(matches, "idle-timeout", Limits::DEFAULT.idle_millis),
         head_millis: millis_of(matches, "request-timeout", Limits::DEFAULT.head_millis),
         min_rate: rate_of(matches),
+        retire_millis: millis_of(matches, "retire-timeout", Limits::DEFAULT.retire_millis),
         ..Limits::DEFAULT
     }
 }
@@ -166,7 +167,8 @@ fn clients_arguments<'a>(alloc: Global, command: Command<'a>) -> Result<Command<
         .arg(max_clients(alloc))?
         .arg(idle_timeout(alloc))?
         .arg(request_timeout(alloc))?
-        .arg(min_rate(alloc))
+        .arg(min_rate(alloc))?
+        .arg(retire_timeout(alloc))
 }
 
 // The options for files.
@@ -234,6 +236,16 @@ fn min_rate<'a>(alloc: Global) -> Arg<'a> {
         .value_parser(value_parser!(u32))
         .help(
             "Close a connection that accepts fewer bytes of a response a second, over 20 seconds [default: 1024]",
+        )
+}
+
+fn retire_timeout<'a>(alloc: Global) -> Arg<'a> {
+    Arg::new(alloc, "retire-timeout")
+        .long("retire-timeout")
+        .value_name("SECONDS")
+        .value_parser(value_parser!(u32).range(1..DAY))
+        .help(
+            "Cut off a response that takes longer than this after a change of the site [default: 300]",
         )
 }
 

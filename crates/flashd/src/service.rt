@@ -26,7 +26,7 @@ use std::time::{Duration, Instant, SystemTime, UNIX_EPOCH};
 use std::{io, mem};
 
 /// The pause between two checks of the folder is at least this number of times as long as the
-/// first of them took.
+/// first of them took, with the time to read a folder that changed.
 const PAUSE_LOOKS: u64 = 20;
 
 /// The files of a folder, and the log of responses. With the storage `InMemory` each world that it

@@ -1,5 +1,6 @@
 //! The clients and the worlds that serve them, for all kinds of sockets.
 ghost use Rattle.std.specs.Prelude.{◌≡◌, ◌<◌, ◌≤◌, ◌-◌, [], get_or, length, max, nat_lt, None, Some, IfNone, IfOk, IfSome};
+ghost use Rattle.std.specs.Prelude.{◌&&◌, is_some, nat_le};
 ghost use Rattle.iol_reactor.specs.Served.{HasKnownHistory, IsEmpty};
 
 use crate::client::Client;
@@ -59,6 +60,9 @@ pub struct Engine<S: Socket, B: Backing, P: Process, V: Service<B, P>> {
     // The process with which rounds of turns continue.
     pub(crate) next_process: usize,
     now: u64,
+
+    // The time of the last renewal.
+    renewed_at: u64,
 }
 
 impl<S: Socket + Drop, B: Backing + Drop, P: Process, V: Service<B, P>> Engine<S, B, P, V> {
@@ -121,6 +125,7 @@ impl<S: Socket + Drop, B: Backing + Drop, P: Process, V: Service<B, P>> Engine<S
             is_moved: true,
             next_process: 0,
             now: 0,
+            renewed_at: 0,
         }
     }
 
@@ -160,9 +165,21 @@ impl<S: Socket + Drop, B: Backing + Drop, P: Process, V: Service<B, P>> Engine<S
         ensures clients { self.new.places.clients ≡ self.old.places.clients }
         ensures takes { self.old.places.worlds.links.generation < 18446744073709551615 →
             self.new.places.worlds.current.world ≡ world }
+        ensures since { self.new.renewed_at ≡ self.old.now }
     {
         self.places.renew(world);
         self.is_moved = true;
+        self.renewed_at = self.now;
+    }
+
+    /// Whether a world retires, and the time that it has for that is over.
+    pub fn is_overdue(&self) -> bool
+        ensures { result ≡ (is_some self.entry.now.places.worlds.retiring
+            && nat_le self.entry.now.limits.retire_millis
+            (self.entry.now.now - self.entry.now.renewed_at)) }
+    {
+        self.worlds().is_retiring()
+            && self.now.saturating_sub(self.renewed_at) >= self.limits.retire_millis
     }
 
     /// The client in this place.

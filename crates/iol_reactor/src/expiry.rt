@@ -1,4 +1,6 @@
 //! The effect of expired deadlines.
+ghost use Rattle.std.specs.Prelude.{◌≡◌, ◌<◌, ◌-◌, None};
+
 use crate::client::{Client, Phase};
 use crate::engine::Engine;
 use crate::marks::Marks;
@@ -16,6 +18,7 @@ impl<S: Socket + Drop, B: Backing + Drop, P: Process, V: Service<B, P>> Engine<S
         self.end_incomplete(service)?;
         self.end_slow(service)?;
         self.end_drained(service)?;
+        self.end_outdated(service)?;
         self.park_idle()
     }
 
@@ -98,6 +101,26 @@ impl<S: Socket + Drop, B: Backing + Drop, P: Process, V: Service<B, P>> Engine<S
                 break;
             };
             self.end(key, service)?;
+        }
+        Ok(())
+    }
+
+    // Ends the clients that have a connection of an earlier world after the time that a world has
+    // to retire. So no world retires afterwards.
+    fn end_outdated(&mut self, service: &mut V) -> Result<(), AllocError>
+        ensures alone { self.old.places.worlds.retiring ≡ None → self.new ≡ self.old }
+        ensures early { self.old.now - self.old.renewed_at < self.old.limits.retire_millis →
+            self.new ≡ self.old }
+    {
+        if !self.is_overdue() {
+            return Ok(());
+        }
+        for slot in 0..self.places.len() {
+            if self.worlds().is_outdated(slot) {
+                self.places.abandon(slot, service);
+                self.is_moved = true;
+                self.list(slot)?;
+            }
         }
         Ok(())
     }

@@ -28,6 +28,9 @@ pub struct Limits {
     /// A client that is idle for this time gives back its connection of the world.
     pub park_millis: u64,
 
+    /// After a new world has begun, requests in progress in the one before have this time to finish.
+    pub retire_millis: u64,
+
     /// The service ends when this number of clients has come and gone. None: it never ends.
     pub stop_after: Option<u32>,
 
@@ -46,6 +49,7 @@ impl Limits {
         rate_millis: 20_000,
         drain_millis: 1_000,
         park_millis: 2,
+        retire_millis: 300_000,
         stop_after: None,
         ends_unaccepted: false,
     };

@@ -35,6 +35,9 @@ const CONFIG: Config = Config {
 // The turns of a round.
 const TURNS: usize = 4_096;
 
+// The milliseconds in which requests in progress finish after a new world has begun.
+const RETIRE_MILLIS: u64 = 100;
+
 // A service whose requests are lines. It counts the responses that were sent whole. An empty line
 // may be the last request of a connection.
 #[derive(Drop)]
@@ -114,6 +117,7 @@ fn world_over(
 fn engine_of<'a>(alloc: Global) -> Result<Echoes<'a>, Refusal> {
     let mut limits = Limits::DEFAULT;
     limits.max_clients = 2;
+    limits.retire_millis = RETIRE_MILLIS;
     let world = world_of(alloc)?;
     Ok(Engine::new(alloc, world, limits)?)
 }
@@ -132,6 +136,9 @@ const ROWS: [Row; 8] = [
     (3, 2, 3, true),
     (2, 64, 2, false),
 ];
+
+// The second write of the first response blocks.
+const BLOCKED_ROWS: [Row; 3] = [(6, 1, 2, true), (6, 3, 2, false), (64, 5, 2, false)];
 
 // Rounds, each after all sockets were reported ready, up to the end of the client, at most 1,000:
 // the bytes that its socket had accepted before the last of them.
@@ -199,6 +206,29 @@ fn stop(alloc: Global, engine: &mut Echoes<'_>, row: &Row) -> Result<bool, Alloc
     Ok(accepted == UP_TO_EMPTY && service.whole == 1 && engine.count() == 1)
 }
 
+// Whether a client whose response is blocked stays while the world of its request retires, and ends
+// with the time that it has for that.
+fn retire(alloc: Global, engine: &mut Echoes<'_>, row: &Row) -> Result<bool, Refusal> {
+    if !admit(alloc, engine, row) {
+        return Ok(false);
+    }
+    let mut service = Lines {
+        whole: 0,
+        closes: false,
+    };
+    engine.note(0, true, false, true)?;
+    engine.round(TURNS, &mut service)?;
+    engine.renew(world_of(alloc)?);
+    engine.set_now(RETIRE_MILLIS - 1);
+    engine.expire(&mut service)?;
+    let stays = engine.worlds().is_retiring() && engine.count() == 1;
+    engine.set_now(RETIRE_MILLIS);
+    engine.expire(&mut service)?;
+    let is_dropped = !engine.worlds().is_retiring() && engine.worlds().links() == 0;
+    engine.round(TURNS, &mut service)?;
+    Ok(stays && is_dropped && service.whole == 0 && engine.count() == 0)
+}
+
 fn exchanges(alloc: Global, row: &Row) -> Result<bool, Refusal> {
     let mut engine = engine_of(alloc)?;
     let holds = exchange(alloc, &mut engine, row);
@@ -213,6 +243,13 @@ fn stops(alloc: Global, row: &Row) -> Result<bool, Refusal> {
     Ok(holds?)
 }
 
+fn retires(alloc: Global, row: &Row) -> Result<bool, Refusal> {
+    let mut engine = engine_of(alloc)?;
+    let holds = retire(alloc, &mut engine, row);
+    drop(engine);
+    holds
+}
+
 #[test]
 fn each_exchange(rt: HostRuntime) -> Result<(), Fail> {
     let alloc = rt.alloc();
@@ -223,4 +260,10 @@ fn each_exchange(rt: HostRuntime) -> Result<(), Fail> {
 fn each_stop(rt: HostRuntime) -> Result<(), Fail> {
     let alloc = rt.alloc();
     pass_each(&ROWS, |row| stops(alloc, row))
+}
+
+#[test]
+fn each_retirement(rt: HostRuntime) -> Result<(), Fail> {
+    let alloc = rt.alloc();
+    pass_each(&BLOCKED_ROWS, |row| retires(alloc, row))
 }
