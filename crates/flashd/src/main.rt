@@ -3,12 +3,14 @@
 
 ghost use Rattle.std.specs.Prelude.{◌≡◌, ◌⊎◌, IfOk};
 
+mod fault;
 mod notices;
 mod options;
 mod serve;
 mod service;
 mod storage;
 
+use fault::{Fault, Step};
 use options::{Options, command};
 use serve::serve;
 use std::io::{ErrorKind, Write};
@@ -32,7 +34,7 @@ fn words_of<R: Env + AllocGlobal>(rt: &R) -> io::Result<Vec<String>> {
 }
 
 /// Runs the program that the words request, and returns its exit status.
-fn run(rt: &HostRuntime, words: &[String]) -> io::Result<u8>
+fn run<'a>(rt: &HostRuntime, words: &'a [String]) -> Result<u8, Fault<'a>>
     ensures { IfOk result (λ status. (status ≡ 0) ⊎ (status ≡ 2)) }
 {
     let command = command(rt.alloc())?;
@@ -41,7 +43,7 @@ fn run(rt: &HostRuntime, words: &[String]) -> io::Result<u8>
         Err(error) => {
             let shown = error.print(rt);
             let status = if error.use_stderr() { BAD_WORDS } else { 0 };
-            shown?;
+            shown.map_err(|error| Fault::of(Step::Print, error))?;
             return Ok(status);
         }
     };
@@ -49,23 +51,26 @@ fn run(rt: &HostRuntime, words: &[String]) -> io::Result<u8>
         writeln!(
             rt.stderr(),
             "error: --listen wants an IP address and a port, as 127.0.0.1:8080 or [::1]:8080"
-        )?;
+        )
+        .map_err(|error| Fault::of(Step::Print, error))?;
         return Ok(BAD_WORDS);
     };
     serve(rt, &options)?;
     Ok(0)
 }
 
-/// Runs the program, and reports on standard error the fault that ended it early.
+/// Runs the program, and reports on standard error the fault that ended it early. An error of that
+/// write is ignored.
 fn main(rt: HostRuntime) -> ExitCode {
-    let done = match words_of(&rt) {
-        Ok(words) => run(&rt, &words),
-        Err(e) => Err(e),
+    let words = words_of(&rt);
+    let done = match &words {
+        Ok(words) => run(&rt, words),
+        Err(error) => Err(Fault::of(Step::ReadWords, *error)),
     };
     match done {
         Ok(status) => ExitCode::from(status),
-        Err(e) => {
-            let _ = writeln!(rt.stderr(), "flashd: {e}");
+        Err(fault) => {
+            let _ = writeln!(rt.stderr(), "flashd: {fault}");
             ExitCode::from(FAULT)
         }
     }

@@ -13,17 +13,6 @@ pub fn tell_site<R: Eprint>(rt: &R, root: &str, summary: &Summary) {
     }
 }
 
-/// Reports that a site is not served, since it is to be served from memory and is not in memory.
-pub fn tell_not_in_memory<R: Eprint>(rt: &R, root: &str) {
-    let _ = tell_too_large(rt, root);
-}
-
-fn tell_too_large<R: Eprint>(rt: &R, root: &str) -> io::Result<()> {
-    eprintln!(rt;
-        "flashd: the files of {root} exceed --preload-limit, or change while they are read"
-    )
-}
-
 /// Reports that a site outgrew the memory that it is to be served from, so that its last state is
 /// served.
 pub fn tell_outgrown<R: Eprint>(rt: &R, root: &str) {

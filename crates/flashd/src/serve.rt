@@ -1,7 +1,7 @@
 //! The server.
 ghost use Rattle.std.specs.Prelude.{◌≡◌, true};
 
-use crate::notices::tell_not_in_memory;
+use crate::fault::{Fault, Step};
 use crate::options::Options;
 use crate::service::SiteService;
 use crate::storage::{Anywhere, InMemory, Storage};
@@ -12,9 +12,13 @@ use iol_reactor::reactor::Reactor;
 use iol_reactor::service::Service;
 use iol_tree::backing::TreeBacking;
 use mio::net::TcpListener;
+use std::alloc::AllocError;
 use std::fs::{File, OpenOptions};
 use std::io;
-use std::io::{ErrorKind, Write};
+use std::io::Write;
+
+/// The reason for which `--memory-only` does not serve a site.
+const NOT_IN_MEMORY: &str = "its files exceed --preload-limit, change, or cannot be read";
 
 // The event loop of a site.
 type SiteReactor<W, K> = Reactor<
@@ -26,7 +30,7 @@ type SiteReactor<W, K> = Reactor<
 
 /// Serves a site with the options of the command line, until the given number of clients was
 /// served.
-pub fn serve(rt: &HostRuntime, options: &Options<'_>) -> io::Result<()> {
+pub fn serve<'a>(rt: &HostRuntime, options: &Options<'a>) -> Result<(), Fault<'a>> {
     let log = match options.access_log {
         Some("-") => return serve_site(rt, options, Some(AccessLog::new(rt.alloc(), rt.stdout()))),
         Some(path) => Some(AccessLog::new(rt.alloc(), open_log(rt, path)?)),
@@ -36,40 +40,57 @@ pub fn serve(rt: &HostRuntime, options: &Options<'_>) -> io::Result<()> {
 }
 
 // Opens the log file for appending.
-fn open_log(rt: &HostRuntime, path: &str) -> io::Result<File> {
-    OpenOptions::new().append(true).create(true).open(rt, path)
+fn open_log<'a>(rt: &HostRuntime, path: &'a str) -> Result<File, Fault<'a>> {
+    OpenOptions::new()
+        .append(true)
+        .create(true)
+        .open(rt, path)
+        .map_err(|error| Fault::of(Step::OpenLog(path), error))
+}
+
+// Reads the site.
+fn read_site(
+    rt: &HostRuntime,
+    options: &Options<'_>,
+) -> io::Result<(Source<HostRuntime>, Loaded<HostRuntime>)> {
+    let mut source = Source::new(rt, options.root, options.preload)?;
+    let loaded = source.load()?;
+    Ok((source, loaded))
 }
 
 // Reads the site, and serves it: with `--memory-only` only from memory.
-fn serve_site<W: Write + Drop>(
+fn serve_site<'a, W: Write + Drop>(
     rt: &HostRuntime,
-    options: &Options<'_>,
+    options: &Options<'a>,
     log: Option<AccessLog<W>>,
-) -> io::Result<()> {
-    let mut source = Source::new(rt, options.root, options.preload)?;
-    let loaded = source.load()?;
+) -> Result<(), Fault<'a>> {
+    let root = options.root;
+    let read = read_site(rt, options);
+    let (source, loaded) = read.map_err(|error| Fault::of(Step::Read(root), error))?;
     if !options.memory_only {
         return serve_loaded::<W, Anywhere>(rt, options, source, loaded, log);
     }
     if !loaded.summary.is_in_memory {
-        tell_not_in_memory(rt, options.root);
-        return Err(io::Error::from(ErrorKind::Other));
+        let error = io::Error::other(NOT_IN_MEMORY);
+        return Err(Fault::of(Step::ReadIntoMemory(root), error));
     }
     serve_loaded::<W, InMemory>(rt, options, source, loaded, log)
 }
 
 // Listens, and serves a site that was read.
-fn serve_loaded<W: Write + Drop, K: Storage>(
+fn serve_loaded<'a, W: Write + Drop, K: Storage>(
     rt: &HostRuntime,
-    options: &Options<'_>,
+    options: &Options<'a>,
     source: Source<HostRuntime>,
     loaded: Loaded<HostRuntime>,
     log: Option<AccessLog<W>>,
-) -> io::Result<()>
+) -> Result<(), Fault<'a>>
     requires { K.IN_MEMORY ≡ true → loaded.summary.is_in_memory ≡ true }
 {
     let Loaded { world, summary } = loaded;
-    let mut reactor = Reactor::new(rt, rt.alloc(), options.listen, world, options.limits)?;
+    let address = options.listen;
+    let reactor = Reactor::new(rt, rt.alloc(), address, world, options.limits);
+    let mut reactor = reactor.map_err(|error| Fault::of(Step::Listen(address), error))?;
     let service = SiteService::<_, _, K>::new(rt, options.root, source, summary, log);
     let served = serve_clients(rt, service, &mut reactor);
     drop(reactor);
@@ -77,15 +98,17 @@ fn serve_loaded<W: Write + Drop, K: Storage>(
 }
 
 // Prints its address, and serves.
-fn serve_clients<W: Write + Drop, K: Storage>(
+fn serve_clients<'a, W: Write + Drop, K: Storage>(
     rt: &HostRuntime,
-    service: io::Result<SiteService<HostRuntime, W, K>>,
+    service: Result<SiteService<HostRuntime, W, K>, AllocError>,
     reactor: &mut SiteReactor<W, K>,
-) -> io::Result<()> {
+) -> Result<(), Fault<'a>> {
     let mut service = service?;
     let served = match tell_address(rt, reactor) {
-        Ok(()) => reactor.serve(rt, &mut service),
-        Err(error) => Err(error),
+        Ok(()) => reactor
+            .serve(rt, &mut service)
+            .map_err(|error| Fault::of(Step::Poll, error)),
+        Err(error) => Err(Fault::of(Step::Print, error)),
     };
     service.flush();
     served

@@ -60,7 +60,7 @@ where
         source: Source<R>,
         summary: Summary,
         log: Option<AccessLog<W>>,
-    ) -> io::Result<SiteService<R, W, K>> {
+    ) -> Result<SiteService<R, W, K>, AllocError> {
         tell_site(rt, root, &summary);
         Ok(SiteService {
             rt: rt.clone()?,
