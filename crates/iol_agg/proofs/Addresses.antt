@@ -20,7 +20,7 @@ added i n (block_ptr b o) =
     ap (λ k. block_ptr b k) same
 added i n null_ptr = refl
 
--- bytes of a buffer from a place on, by their distance from another place
+-- the addresses of bytes from a place on, by their distances from another place
 from_place : (k from a n : ℕ) (base : Ptr) → map (λ i. ptr_add u8 i (ptr_add u8 (k + from) base)) (range_with_len a n)
     ≡ map (λ j. ptr_add u8 (k + j) base) (range_with_len (from + a) n)
 from_place k from a zero base = refl

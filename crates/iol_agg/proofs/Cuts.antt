@@ -1,4 +1,4 @@
--- Lists and slices of which a part is taken.
+-- Parts of lists and of slices.
 use Rattle.std.proofs.Common.{◌≡◌, ℕ, zero, suc, ◌+◌, ◌-◌, ◌<◌, min, List, [], ◌∷◌, ◌++◌, length, take, drop, get_or}
 use Rattle.std.proofs.Common.{slice_range, refl, sym, ap, ◌∙◌, arith, append_assoc}
 use Rattle.std.proofs.lemmas.List.{at_drop_more, take_min, length-drop}
@@ -6,7 +6,7 @@ use Rattle.iol_hold.specs.declared.slices.Slice.{Slice}
 use Rattle.iol_hold.specs.Places.{Place, slice_places, places}
 use Rattle.iol_hold.proofs.SlicePlaces.{length-slice_places, places-push}
 
--- Of two lists.
+-- Two lists.
 
 pub take-append : {A : Type 0} (k : ℕ) (xs ys : List A) → take k (xs ++ ys) ≡ take k xs ++ take (k - length xs) ys
 take-append zero xs ys = (let e : zero - length xs ≡ zero = omega arith in rw e refl)
@@ -26,14 +26,14 @@ cut-append left skip xs ys =
     ap (take left) (drop-append skip xs ys) ∙ take-append left (drop skip xs) (drop (skip - length xs) ys)
     ∙ ap (λ n. take left (drop skip xs) ++ take (left - n) (drop (skip - length xs) ys)) (length-drop skip xs)
 
--- Of the places of slices.
+-- The places of slices.
 
 places-drop_more : (xs : List Slice) (i : ℕ) (x : Slice) → i < length xs → x ≡ get_or xs i x
     → places (drop i xs) ≡ slice_places x ++ places (drop (i + 1) xs)
 places-drop_more xs i x h e = at_drop_more places xs i x h
     ∙ ap (λ y. slice_places y ++ places (drop (i + 1) xs)) (sym e)
 
--- as many bytes as there are, and no more
+-- as many elements as there are, and no more
 take_most : {A : Type 0} (left skip : ℕ) (xs : List A)
     → take (min left (length xs - skip)) (drop skip xs) ≡ take left (drop skip xs)
 take_most left skip xs = ap (λ n. take (min left n) (drop skip xs)) (sym (length-drop skip xs))
@@ -48,7 +48,8 @@ part-cut x y part skip left taken same is e =
     is ∙ ap (λ t. take (skip + taken - skip) (drop skip t)) same ∙ ap (λ m. take m (drop skip (slice_places x))) n
     ∙ take_most left skip (slice_places x)
 
--- the step of a cut: a part of the slice is done, and what is left is of the slices after it, from the first byte on
+-- one step of a cut: a part of this slice is taken, and the rest comes from the slices after it, from their first byte
+-- on
 pub cut_more : (out xs : List Slice) (i skip left taken : ℕ) (x y part : Slice) (all : List Place) → i < length xs
     → x ≡ get_or xs i x
     → skip < x.len → taken ≡ min left (x.len - skip) → slice_places y ≡ slice_places x

@@ -15,7 +15,7 @@ use Rattle.iol_agg.specs.Pours.{meeting}
 use Rattle.iol_agg.proofs.Pours.{shares_beside}
 use Rattle.iol_agg.proofs.RangeSlices.{meeting-drop, meeting-empty, meeting-front, meeting-rest, meeting-start}
 
--- what is left of a slice from place n on
+-- the rest of a slice, from place n on
 pub tail-cut : (x y tail : Slice) (n : ℕ) → slice_places y ≡ slice_places x
     → slice_places tail ≡ slice_range (slice_places y) n x.len → slice_places tail ≡ drop n (slice_places x)
 tail-cut x y tail n same is =
@@ -49,13 +49,13 @@ pub bufs-left : (xs : List Slice) (x y : Slice) → 0 < length xs → x ≡ get_
 bufs-left [] x y h e is = absurd (omega arith)
 bufs-left (z ∷ zs) x y h e is = ap (λ b. b ∷ bufs_of zs) (is ∙ ap (λ (w : Slice). w.hold.buf) e)
 
--- none of its bytes meet it
+-- if n is 0, no slice meets the range
 pub bufs-none : (fs xs : List Slice) (n : ℕ) → n ≡ 0 → bufs_of fs ≡ bufs_of fs ++ bufs_of (meeting 0 n xs)
 bufs-none fs xs n e =
     sym (ap (λ m. bufs_of fs ++ bufs_of (meeting 0 m xs)) e ∙ ap (λ l. bufs_of fs ++ bufs_of l) (meeting-empty 0 xs)
     ∙ append-nil (bufs_of fs))
 
--- it meets those n bytes
+-- otherwise the first slice meets it
 pub bufs-given : (fs xs : List Slice) (x part : Slice) (n : ℕ) → 0 < length xs → x ≡ get_or xs 0 x → 0 < n
     → n < (get_or xs 0 x).len → part.hold.buf ≡ x.hold.buf
     → bufs_of (fs ++ part ∷ []) ≡ bufs_of fs ++ bufs_of (meeting 0 n xs)
@@ -105,7 +105,7 @@ drop-halves xs k r at e =
     sym (drop-append-add (places (take k xs)) (places (drop k xs)) r)
     ∙ ap (λ n. drop n (places (take k xs) ++ places (drop k xs))) e ∙ ap (drop at) (sym (places-halves xs k))
 
--- which slices have them: those that meet the range before the place, and those that meet the range from it on
+-- the slices of these bytes: those that meet the range before the place, and those that meet the range from it on
 pub bufs-before : (xs : List Slice) (k r at : ℕ) → byte_len (take k xs) + r ≡ at
     → bufs_of (take k xs) ++ bufs_of (meeting 0 r (drop k xs)) ≡ bufs_of (meeting 0 at xs)
 bufs-before xs k r at e = sym (bufs-append (take k xs) (meeting 0 r (drop k xs)))
@@ -120,7 +120,7 @@ bufs-after xs k r at e h inside =
     ap bufs_of (sym (meeting-rest (drop k xs) r (r + n) inside (omega (arith, all, e, h)))
     ∙ meeting-drop xs k r n at (byte_len xs) e (omega (arith, h)))
 
--- how many bytes the two have
+-- the number of bytes before the place
 pub byte_len-taken : (xs ys : List Slice) (at : ℕ) → places ys ≡ take at (places xs) → at ≤ byte_len xs
     → at ≡ byte_len ys
 byte_len-taken xs ys at e h = omega (arith, ap length e, length-take at (places xs), h)

@@ -1,4 +1,4 @@
--- Stores of which all holds are known.
+-- Stores whose holds are all known.
 use Rattle.std.proofs.Common.{◌≡◌, ℕ, zero, suc, ◌<◌, ◌≤◌, ◌^◌, List, [], ◌∷◌, ◌++◌, replicate, get_or, refl, ap, ◌∙◌}
 use Rattle.std.proofs.Common.{arith, subst, Result, Ok, OnOk}
 use Rattle.std.specs.Result.{IfOk}
@@ -26,7 +26,7 @@ free_entry zero q = refl
 free_entry (suc n) zero = refl
 free_entry (suc n) (suc q) = free_entry n q
 
--- nothing is held where all pages are free
+-- if all pages are free, no buffer is held
 pub held_none : (s : Stored) (n : ℕ) → s.arena.entries ≡ replicate n no_entry → IsHeldBy s []
 unfolding count_of tally
 held_none s n e =
@@ -47,7 +47,7 @@ held_moves {xs = xs} {ys = ys} h m =
 pub held_covers : {s : Stored} {xs : List BufId} → IsHeldBy s xs → Covers s xs
 held_covers h = record { each = λ b. omega (arith, h.each b) }
 
--- each slice has a byte
+-- the slices have at most as many holds as bytes, since each slice has a byte
 pub tally-few : (b : BufId) (xs : List Slice) → tally b (bufs_of xs) ≤ byte_len xs
 unfolding tally
 tally-few b [] = omega arith
@@ -57,20 +57,20 @@ pub held_countable : {s : Stored} (xs : List Slice) → IsHeldBy s (bufs_of xs) 
     → IsCountable s (bufs_of xs)
 held_countable xs h small = record { each = λ b. omega (arith, h.each b, tally-few b xs) }
 
--- three holds more on each
+-- three further holds can be counted for each slice
 pub held_thrice : {s : Stored} (xs : List Slice) → IsHeldBy s (bufs_of xs) → byte_len xs < 2 ^ 32
     → IsCountable s (bufs_of xs ++ bufs_of xs ++ bufs_of xs)
 held_thrice xs h small =
     record { each = λ b. omega (arith, h.each b, tally-few b xs, tally_thrice b (bufs_of xs) (bufs_of xs)) }
 
--- what was made is covered
+-- holds that were made are covered
 pub made_covers : {s t : Stored} {ys : List BufId} → Shares s t [] ys → Covers t ys
 made_covers m = record { each = λ b. omega (arith, m.counts.each b, tally_none b) }
 
 pub moved_covers : {s t : Stored} {ys : List BufId} → Moves s t [] ys → Covers t ys
 moved_covers m = record { each = λ b. omega (arith, m.counts.each b, tally_none b) }
 
--- and is given up
+-- holds that were made are released again
 pub held_again : {s t u : Stored} {xs ys : List BufId} → IsHeldBy s xs → Shares s t [] ys → Moves t u ys []
     → IsHeldBy u xs
 held_again h m n = record { each = λ b. omega (arith, h.each b, m.counts.each b, n.counts.each b, tally_none b) }

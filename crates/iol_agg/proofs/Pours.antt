@@ -1,4 +1,4 @@
--- Slices poured, one after another.
+-- Slices that are poured, one after another.
 use Rattle.std.proofs.Common.{◌≡◌, ℕ, ◌+◌, ◌<◌, ◌≤◌, ◌^◌, List, [], ◌∷◌, ◌++◌, length, take, drop, get_or, ap, ◌∙◌}
 use Rattle.std.proofs.Common.{arith}
 use Rattle.std.proofs.lemmas.List.{take-append-drop}
@@ -11,7 +11,7 @@ use Rattle.iol_hold.proofs.Counts.{tally-append, tally_none, same_self, bufs-app
 use Rattle.iol_hold.proofs.Counts.{tally-at, tally-take}
 use Rattle.iol_agg.specs.Pours.{AreShareable, Pours}
 
--- no more of them are among the last than among all
+-- the last slices hold a buffer at most as often as all slices
 tally-drop : (b : BufId) (xs : List Slice) (k : ℕ) → tally b (bufs_of (drop k xs)) ≤ tally b (bufs_of xs)
 tally-drop b xs k =
     omega (
@@ -21,7 +21,7 @@ tally-drop b xs k =
       ap (tally b) (bufs-append (take k xs) (drop k xs)),
     )
 
--- what one step gave is taken by the next
+-- the next step releases the holds that the first step made
 pub shares_then : {a b c : Stored} {xs ys zs : List BufId} → Shares a b xs ys → Shares b c ys zs → Shares a c xs zs
 shares_then m n = record {
   counts = record { each = λ b. omega (arith, m.counts.each b, n.counts.each b) };
@@ -30,7 +30,7 @@ shares_then m n = record {
   tidy = λ h. n.tidy (m.tidy h);
 }
 
--- a hold that stays beside
+-- the same holds are added before and after
 pub shares_beside : {a b : Stored} {xs ys : List BufId} (zs ws : List BufId)
     → ((b : BufId) → tally b zs + tally b ys ≡ tally b ws + tally b xs) → Shares a b xs ys → Shares a b zs ws
 shares_beside zs ws e m = record {
@@ -40,7 +40,7 @@ shares_beside zs ws e m = record {
   tidy = m.tidy;
 }
 
--- one slice more
+-- one more slice is added
 pub pours_one : (s t : Stored) (xs : List Slice) (x : Slice) (b : BufId) → x.hold.buf ≡ b → Shares s t [] (b ∷ [])
     → Pours s t xs (xs ++ x ∷ []) (b ∷ [])
 pours_one s t xs x b is m =
@@ -74,7 +74,7 @@ pours_trans u m n = record {
   most = λ b. omega (arith, m.most b, n.most b, u b);
 }
 
--- the source has a slice more
+-- one more slice of the source is poured
 pub pours_more : {a b c : Stored} {xs ys zs : List Slice} (ss : List Slice) (i : ℕ) (x : Slice) → i < length ss
     → x ≡ get_or ss i x
     → Pours a b xs ys (bufs_of (take i ss)) → Pours b c ys zs (x.hold.buf ∷ [])
@@ -104,7 +104,7 @@ pours_rest ss k m = record {
   most = λ b. omega (arith, m.most b, tally-drop b ss k);
 }
 
--- the slice that is next is held
+-- the buffer of the next slice is held
 pub next_live : {a b : Stored} {xs ys : List Slice} (ss : List Slice) (i : ℕ) (x : Slice) → i < length ss
     → x ≡ get_or ss i x
     → Covers a (bufs_of ss) → Pours a b xs ys (bufs_of (take i ss)) → 0 < count_of b x.hold.buf
@@ -119,7 +119,7 @@ next_few ss i x h e c m =
     let y = x.hold.buf in
     omega (arith, c.each y, m.shares.counts.each y, m.most y, tally-at ss i x y h e)
 
--- what can be shared of later slices, before a pour, and after it
+-- Later slices can be shared, before a pour and after it.
 pub shareable_drop : {s : Stored} (xs : List Slice) (k : ℕ) → AreShareable s (bufs_of xs)
     → AreShareable s (bufs_of (drop k xs))
 shareable_drop xs k c = record {
@@ -140,6 +140,6 @@ shareable_poured ws zs h m c covered = record {
   countable = record { each = λ b. omega (arith, c.each b, m.shares.counts.each b, m.most b, h b) };
 }
 
--- these, these again, and others
+-- a list twice, and another list
 pub tally_thrice : (b : BufId) (xs ys : List BufId) → tally b (xs ++ xs ++ ys) ≡ tally b xs + tally b xs + tally b ys
 tally_thrice b xs ys = omega (arith, tally-append b (xs ++ xs) ys, tally-append b xs xs)

@@ -11,7 +11,7 @@ use Rattle.iol_hold.proofs.SlicePlaces.{byte_len-cons}
 use Rattle.iol_hold.proofs.Counts.{bufs-push}
 use Rattle.iol_agg.specs.Pours.{meeting}
 
--- the first of them meets it
+-- the first slice meets the range
 meeting-first : (from to : ℕ) (x : Slice) (xs : List Slice) → from < to → from < x.len
     → meeting from to (x ∷ xs) ≡ x ∷ meeting (from - x.len) (to - x.len) xs
 unfolding meeting
@@ -22,7 +22,7 @@ pub meeting-nil : (from to : ℕ) → meeting from to [] ≡ []
 unfolding meeting
 meeting-nil from to = refl
 
--- an empty range
+-- no slice meets an empty range
 pub meeting-empty : (at : ℕ) (xs : List Slice) → meeting at at xs ≡ []
 unfolding meeting
 meeting-empty at [] = refl
@@ -30,7 +30,7 @@ meeting-empty at (x ∷ xs) =
     ap (λ b. cond b (x ∷ []) [] ++ meeting (at - x.len) (at - x.len) xs) (le-ltb at (min at x.len) (omega arith))
     ∙ meeting-empty (at - x.len) xs
 
--- all of them
+-- all slices meet the range
 pub meeting-all : (from to : ℕ) (xs : List Slice) → from ≡ 0 → byte_len xs ≤ to → meeting from to xs ≡ xs
 unfolding meeting
 meeting-all from to [] z h = refl
@@ -39,7 +39,7 @@ meeting-all from to (x ∷ xs) z h =
     (lt-ltb from (min to x.len) (omega (arith, byte_len-cons x xs, x.some)))
     ∙ ap (λ t. x ∷ t) (meeting-all (from - x.len) (to - x.len) xs (omega arith) (omega (arith, byte_len-cons x xs)))
 
--- the first alone
+-- only the first slice meets the range
 pub meeting-start : (to : ℕ) (x : Slice) (xs : List Slice) → 0 < to → to < x.len → meeting 0 to (x ∷ xs) ≡ x ∷ []
 meeting-start to x xs h k =
     let none : 0 - x.len ≡ 0 = omega arith in
@@ -47,7 +47,7 @@ meeting-start to x xs h k =
     meeting-first 0 to x xs h x.some ∙ ap (λ n. x ∷ meeting n (to - x.len) xs) none ∙ ap (λ n. x ∷ meeting 0 n xs) end
     ∙ ap (λ t. x ∷ t) (meeting-empty 0 xs)
 
--- the first k, and what meets the bytes after them
+-- the first k slices, and those that meet the bytes after them
 pub meeting-front : (xs : List Slice) (k r at : ℕ) → byte_len (take k xs) + r ≡ at
     → take k xs ++ meeting 0 r (drop k xs) ≡ meeting 0 at xs
 meeting-front xs zero r at e = (let same : r ≡ at = omega (arith, e) in ap (λ n. meeting 0 n xs) same)
@@ -59,7 +59,7 @@ meeting-front (x ∷ xs) (suc k) r at e =
     ∙ ap (λ n. x ∷ meeting n (at - x.len) xs) (sym none)
     ∙ sym (meeting-first 0 at x xs (omega (arith, len, e, x.some)) x.some)
 
--- all of them, where the range begins within the first
+-- all slices meet a range that begins within the first
 pub meeting-rest : (xs : List Slice) (r to : ℕ) → ((d : Slice) → 0 < r → r < (get_or xs 0 d).len) → byte_len xs ≤ to
     → meeting r to xs ≡ xs
 meeting-rest [] r to inside h = meeting-nil r to
@@ -70,7 +70,7 @@ meeting-rest (x ∷ xs) (suc r) to inside h =
     meeting-first (suc r) to x xs (omega (arith, len, h, within)) within
     ∙ ap (λ t. x ∷ t) (meeting-all (suc r - x.len) (to - x.len) xs (omega (arith, within)) (omega (arith, len, h)))
 
--- after the first k, which end before
+-- the slices after the first k, which end before the range
 pub meeting-drop : (xs : List Slice) (k r n from to : ℕ) → byte_len (take k xs) + r ≡ from → from + n ≡ to
     → meeting r (r + n) (drop k xs) ≡ meeting from to xs
 unfolding meeting
@@ -85,7 +85,7 @@ meeting-drop (x ∷ xs) (suc k) r n from to e f =
     ∙ ap (λ b. cond b (x ∷ []) [] ++ meeting (from - x.len) (to - x.len) xs)
     (sym (le-ltb from (min to x.len) (omega (arith, len))))
 
--- the step of a cut: a part of the slice is done, and what is left is of the slices after it, from the first byte on
+-- one step of a cut: this slice is taken, and the rest comes from the slices after it, from their first byte on
 pub meeting_more : (out xs : List Slice) (i skip left taken : ℕ) (x part : Slice) (all : List BufId) → i < length xs
     → x ≡ get_or xs i x
     → 0 < left → skip < x.len → taken ≡ min left (x.len - skip) → part.hold.buf ≡ x.hold.buf
@@ -104,13 +104,13 @@ meeting_more out xs i skip left taken x part all h e some ends is same before =
     ∙ append_assoc (bufs_of out) (x.hold.buf ∷ []) (bufs_of later) ∙ ap (λ l. bufs_of out ++ bufs_of l) (sym step)
     ∙ before
 
--- nothing is left
+-- no byte is left
 pub meeting_done : (done xs : List Slice) (skip left : ℕ) (all : List BufId) → meeting skip (skip + left) xs ≡ []
     → bufs_of done ++ bufs_of (meeting skip (skip + left) xs) ≡ all → bufs_of done ≡ all
 meeting_done done xs skip left all none h = sym (append-nil (bufs_of done))
     ∙ ap (λ l. bufs_of done ++ bufs_of l) (sym none) ∙ h
 
--- a part, all of others, and another part
+-- a part, all of other slices, and another part
 pub meeting_thrice : (none one two all xs xs' xs'' ys ys' : List Slice) (from to len len' : ℕ) → none ≡ []
     → bufs_of one ≡ bufs_of none ++ bufs_of (meeting 0 from xs')
     → bufs_of two ≡ bufs_of one ++ bufs_of (meeting 0 len' ys')

@@ -17,14 +17,14 @@ pub record IsPlaceOf (xs : List Slice) (place whole rest : ℕ) : Type 0 where
   pub there : 0 < rest → whole < length xs
   pub inside : (d : Slice) → 0 < rest → rest < (slice_index_or xs whole d).len
 
--- The first n bytes of a slice may be taken off: it has more, and its buffer is held and can be held once more.
+-- The first n bytes of a slice may be taken off: it has more, and its buffer is held and can get one more hold.
 pub record MayDivide (s : Stored) (x : Slice) (n : ℕ) : Type 0 where
   pub some : 0 < n
   pub within : n < x.len
   pub live : 0 < count_of s x.hold.buf
   pub few : count_of s x.hold.buf < 2 ^ 63
 
--- The first n bytes of a slice were taken off, and both parts hold its buffer, which is held once more.
+-- The first n bytes of a slice were taken off. Both parts hold its buffer, which has one more hold.
 pub record Divides (s t : Stored) (x first rest : Slice) (n : ℕ) : Type 0 where
   pub given : slice_places first ≡ take n (slice_places x)
   pub kept : slice_places rest ≡ drop n (slice_places x)

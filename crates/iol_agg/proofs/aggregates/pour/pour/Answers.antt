@@ -17,7 +17,7 @@ use Rattle.iol_agg.proofs.aggregates.pour.pour.Goals as goal
 abbrev later : List Slice → ℕ → List Slice
 later xs k = slice_range xs k (length xs)
 
--- what is poured of the first i of them is of all
+-- slices poured from the first i of these are poured from all slices
 poured : {s t : Stored} {before after : List Slice} (xs : List Slice) (k i : ℕ)
     → Pours s t before after (bufs_of (take i (later xs k))) → Pours s t before after (bufs_of xs)
 poured {s} {t} {before} {after} xs k i m =
@@ -28,12 +28,12 @@ shareable_later : {s : Stored} (xs : List Slice) (k : ℕ) → AreShareable s (b
 shareable_later {s} xs k held =
     subst (λ l. AreShareable s (bufs_of l)) (sym (take_rest xs k)) (shareable_drop xs k held)
 
--- the next slice ends after what is passed over
+-- the next slice has more bytes than are skipped
 ends_after : (xs : List Slice) (i skip : ℕ) (x : Slice) → x ≡ get_or xs i x
     → ((d : Slice) → 0 < skip → skip < (get_or xs i d).len) → skip < x.len
 ends_after xs i skip x is inside = grind (arith, inside x, ap (λ (w : Slice). w.len) is, x.some)
 
--- of the first of them, as of the k-th
+-- likewise for the first of them, which is the k-th slice
 inside_later : (xs : List Slice) (k r : ℕ) → ((d : Slice) → 0 < r → r < (get_or xs k d).len) → (d : Slice) → 0 < r
     → r < (get_or (later xs k) 0 d).len
 inside_later xs k r inside d some =
