@@ -16,7 +16,7 @@ use Rattle.iol_arena.proofs.Each.{order}
 use Rattle.iol_arena.proofs.Scan.{take_full}
 use Rattle.iol_arena.proofs.Members.{filter_same, range_in}
 
--- one element more
+-- the count with one more element
 length-filter-cons : (f : ℕ → Bool) (x : ℕ) (xs : List ℕ)
     → length (filter f (x ∷ xs)) ≡ one (f x) + length (filter f xs)
 length-filter-cons f x xs =
@@ -26,7 +26,7 @@ length-filter-cons f x xs =
       | false ↦ omega arith
     ]
 
--- how many pass where the test changed at one place
+-- the count after the test changes at one place
 pub count_changed : (f g : ℕ → Bool) (a n p : ℕ) → ((q : ℕ) → (q ≡ p → ⊥) → g q ≡ f q) → a ≤ p → p < a + n
     → length (filter g (range_with_len a n)) + one (f p) ≡ length (filter f (range_with_len a n)) + one (g p)
 count_changed f g a zero p same lo hi = absurd (omega arith)
@@ -71,7 +71,7 @@ count_all f a zero all = refl
 count_all f a (suc n) all =
     omega (arith, length-filter-cons f a (range_with_len (a + 1) n), ap one (all a), count_all f (a + 1) n all)
 
--- one that passes is counted
+-- an element that passes is counted
 pub count_some : (f : ℕ → Bool) (a n p : ℕ) → a ≤ p → p < a + n → one (f p) ≤ length (filter f (range_with_len a n))
 count_some f a zero p lo hi = absurd (omega arith)
 count_some f a (suc n) p lo hi = elim (cases_eq p a) [
@@ -86,7 +86,7 @@ count_some f a (suc n) p lo hi = elim (cases_eq p a) [
   ]
 ]
 
--- a page changed: its chunk is counted anew, and the others stay
+-- a page changes: its chunk's count changes with it, and the other counts stay
 pub counted_set : (free : List ℕ) (limit : ℕ) (es : List Entry) (p : ℕ) (e : Entry) (m : ℕ) → AreCounted free limit es
     → p / 16 < length free → p < length es
     → m + one (is_free limit (entry_in es p)) ≡ get_or free (p / 16) 0 + one (is_free limit e)
@@ -118,7 +118,7 @@ counted_set free limit es p e m old within there is = record {
       ];
 }
 
--- of a page that is free its chunk knows
+-- the count of a chunk with a free page is not 0
 pub counted_some : (free : List ℕ) (limit : ℕ) (es : List Entry) (p : ℕ) → AreCounted free limit es
     → p / 16 < length free → one (is_free limit (entry_in es p)) ≤ get_or free (p / 16) 0
 unfolding chunk_pages
@@ -141,7 +141,7 @@ every zero i = refl
 every (suc n) zero = refl
 every (suc n) (suc i) = every n i
 
--- no buffer is there at first
+-- pages without buffers have only whole runs
 pub new_runs : (n : ℕ) → HasRuns (replicate n no_entry)
 new_runs n =
     record {
@@ -193,7 +193,7 @@ none_left : (xs : List ℕ) → length xs ≡ 0 → xs ≡ []
 none_left [] e = refl
 none_left (x ∷ xs) e = absurd (omega arith)
 
--- no page is free in a chunk that counts none
+-- a chunk that counts no free page has none
 pub none_free : (free : List ℕ) (s : State) (c : ℕ) → AreCounted free s.limit s.entries → c < length free
     → get_or free c 0 ≡ 0 → filter (usable s) (chunk_pages c) ≡ []
 none_free free s c counted within none =
@@ -203,7 +203,7 @@ pub take-nil : (m : ℕ) → take m (let l : List ℕ = [] in l) ≡ []
 take-nil zero = refl
 take-nil (suc m) = refl
 
--- the search may stop where all chunks were looked at, or enough was found
+-- the search may stop once it has searched all chunks, or has found enough pages
 pub all_found : (s : State) (xs : List ℕ) (i need have : ℕ) → have ≡ length (take need (free_pages s (take i xs)))
     → (length xs ≤ i) ⊎ (have ≡ need) → take need (free_pages s (take i xs)) ≡ take need (free_pages s xs)
 all_found s xs i need have is (inl all) = ap (λ l. take need (free_pages s l)) (take_all i xs all)

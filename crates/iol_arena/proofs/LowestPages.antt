@@ -1,4 +1,4 @@
--- Once the lowest free pages are claimed, the others are free still.
+-- After the lowest free pages are claimed, the others are still free.
 use Rattle.std.proofs.Common.{◌≡◌, false, ℕ, suc, ◌+◌, ◌*◌, ◌<◌, ◌≤◌, List, [], ◌∷◌, ◌++◌, take, drop, flat_map, sym}
 use Rattle.std.proofs.Common.{ap, ◌∙◌, arith, subst, nat_lt, ◌&&◌, ◌/◌}
 use Rattle.std.specs.List.{All, Contains, filter}
@@ -47,7 +47,7 @@ chunks_within low n pages (c ∷ cs) e rising all = (
   chunks_within (c + 1) n pages cs e rising.1 (λ k d h. all (suc k) d (omega arith)),
 )
 
--- a set with a chunk above all others
+-- a chunk above all others is added to a set
 pub rising_push : (low : ℕ) (cs : List ℕ) (c : ℕ) → IsRisingFrom low cs → low ≤ c → All (λ x. x < c) cs
     → IsRisingFrom low (cs ++ c ∷ [])
 rising_push low [] c h le all = (le, tt)
@@ -57,14 +57,14 @@ rising_push low (x ∷ xs) c h le all = (
       (λ k d below. all (suc k) d (omega arith)),
 )
 
--- which pages are free is said by the entries
+-- the free pages depend only on the entries and the last generation
 pub free-entries : (s t : State) (cs : List ℕ) → t.entries ≡ s.entries → t.limit ≡ s.limit
     → free_pages t cs ≡ free_pages s cs
 free-entries s t cs e l =
     ap (λ (es : List Entry). filter (λ q. is_free t.limit (entry_in es q)) (flat_map chunk_pages cs)) e
     ∙ ap (λ n. filter (λ q. is_free n (entry_at s q)) (flat_map chunk_pages cs)) l
 
--- pages that were found free are of the chunks
+-- the pages that were found free are in the chunks
 pub found_inside : (s : State) (cs : List ℕ) (ps : List Part) (k q : ℕ) → part_pages ps ≡ take k (free_pages s cs)
     → In (part_pages ps) q → Contains cs (q / 16)
 found_inside s cs ps k q pages h =

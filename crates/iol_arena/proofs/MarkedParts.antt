@@ -1,4 +1,4 @@
--- Parts marked one after another: what stands on which page so far.
+-- Parts marked one after another: the kind of each page so far.
 use Rattle.std.proofs.Common.{◌≡◌, true, ℕ, zero, suc, ◌+◌, ◌<◌, ◌≤◌, inl, inr, List, [], ◌∷◌, ◌++◌, length, get_or}
 use Rattle.std.proofs.Common.{take, sym, ap, ◌∙◌, arith, subst}
 use Rattle.std.specs.Prelude.{◌&&◌, nat_lt}
@@ -19,7 +19,7 @@ use Rattle.iol_arena.proofs.Members.{In, in_left, in_right, in_either, in_or_out
 use Rattle.iol_arena.proofs.Members.{in_contains}
 use Rattle.iol_arena.proofs.Steps.{all_at, first_at}
 
--- Of the parts so far, and one more.
+-- The parts so far, and one more.
 
 pub pages-more : (ps : List Part) (i : ℕ) → i < length ps → part_pages (take (i + 1) ps) ≡ part_pages (take i ps)
     ++ range_with_len (get_or ps i no_part).first (get_or ps i no_part).count
@@ -29,7 +29,7 @@ pages-more ps i h =
     ∙ flat_map-append (λ (r : Part). range_with_len r.first r.count) (take i ps) (p ∷ [])
     ∙ ap (λ l. part_pages (take i ps) ++ l) (append-nil (range_with_len p.first p.count))
 
--- the pages of earlier parts lie before
+-- the pages of earlier parts are before a part
 pub before_part : (low : ℕ) (ps : List Part) (i q : ℕ) → AreApart low ps → i < length ps → In (part_pages (take i ps)) q
     → q < (get_or ps i no_part).first
 before_part low [] i q apart h there = absurd (omega arith)
@@ -42,7 +42,7 @@ before_part low (p ∷ ps) (suc i) q apart h there =
       | inr k ↦ before_part (p.first + p.count) ps i q apart.1 (omega arith) k
     ]
 
--- a part none of whose pages changed
+-- a part whose pages did not change is still of its kind
 pub all_same : (k : kind.PageKind) (s t : State) (p : Part) → t.limit ≡ s.limit → length t.entries ≡ length s.entries
     → ((q : ℕ) → p.first ≤ q → entry_at t q ≡ entry_at s q) → IsAll k s.limit s.entries p → IsAll k t.limit t.entries p
 all_same k s t p limit long same all = record {
@@ -52,7 +52,7 @@ all_same k s t p limit long same all = record {
   below = λ q lo hi. omega (arith, ap (λ e. e.generation) (same q lo), all.below q lo hi, limit);
 }
 
--- a page of parts
+-- each page of the parts is of their kind, and below the last generation
 pub page_all : (k : kind.PageKind) (limit : ℕ) (es : List Entry) (ps : List Part) (q : ℕ) → AreAll k limit es ps
     → In (part_pages ps) q → ((entry_in es q).kind ≡ k) × ((entry_in es q).generation < limit)
 page_all k limit es [] q all h = elim h [ ]
@@ -134,11 +134,11 @@ all_marked k0 k s t pages (p ∷ ps) m among limit long all =
       all_marked k0 k s t pages ps m (λ q h. among q (in_right run (part_pages ps) q h)) limit long all.1,
     )
 
--- a page that goes back may be used again
+-- a page below the last generation may be used once it is marked as free
 pub usable_left : (limit : ℕ) (e : Entry) → e.generation < limit → is_free limit (marked Free 0 e) ≡ true
 usable_left limit e h = lt-ltb (e.generation + 0) limit (omega (arith, h))
 
--- pages of parts that are free may be used
+-- the pages of free parts may be used
 pub usable_all : (s : State) (ps : List Part) → AreAll Free s.limit s.entries ps → AreUsable s (part_pages ps)
 usable_all s ps all = record {
   each = λ q h.

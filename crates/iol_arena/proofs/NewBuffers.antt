@@ -1,4 +1,4 @@
--- Buffers made on parts that waited: which pages they lie on, and which go back.
+-- Buffers made on pending parts: the pages that they take, and those that become free again.
 use Rattle.std.proofs.Common.{◌≡◌, true, ℕ, zero, suc, ◌+◌, ◌-◌, ◌*◌, ◌<◌, ◌≤◌, ◌⊎◌, inl, inr, List, [], ◌∷◌, ◌++◌}
 use Rattle.std.proofs.Common.{length, get_or, map, take, drop, min, refl, sym, ap, ◌∙◌, arith, subst}
 use Rattle.std.specs.List.{All, Contains, range_with_len}
@@ -25,7 +25,7 @@ use Rattle.iol_arena.proofs.Keeps.{published_first}
 use Rattle.iol_arena.proofs.Members.{In, in_left, in_right, in_either, in_or_out, in_range, range_in, in_rising}
 use Rattle.iol_arena.proofs.Members.{rising_range, rising_from, contains_in, in_contains}
 
--- Pages for numbers of bytes.
+-- Pages for n bytes.
 
 pub pages_split : (n c : ℕ) → c * 4096 ≤ n → pages_for n ≡ c + pages_for (n - c * 4096)
 unfolding pages_for
@@ -39,7 +39,7 @@ pub pages_none : pages_for 0 ≡ 0
 unfolding pages_for
 pages_none = refl
 
--- the runs on which n bytes lie: whole parts, and the first pages of the last
+-- the runs that n bytes take: whole parts, and the first pages of the last
 abbrev pub needed : List Part → ℕ → List Part
 needed [] n = []
 needed (p ∷ ps) zero = []
@@ -50,7 +50,7 @@ needed-none : (ps : List Part) → needed ps 0 ≡ []
 needed-none [] = refl
 needed-none (p ∷ ps) = refl
 
--- how many of n bytes have no room on the parts
+-- the number of n bytes for which the parts have no room
 abbrev pub left_after : List Part → ℕ → ℕ
 left_after [] n = n
 left_after (p ∷ ps) n = left_after ps (n - p.count * 4096)
@@ -79,7 +79,7 @@ needed-more : (ps : List Part) (i n : ℕ) → i < length ps → needed (take (i
     ++ needed (get_or ps i no_part ∷ []) (left_after (take i ps) n)
 needed-more ps i n h = ap (λ l. needed l n) (take_more ps i no_part h) ∙ needed-snoc (take i ps) (get_or ps i no_part) n
 
--- of one more part, some pages are needed, or none
+-- if bytes are left, the next part adds a run; otherwise it adds none
 pub needed_some : (ps : List Part) (i n left here : ℕ) → i < length ps → left ≡ left_after (take i ps) n → 0 < left
     → here ≡ min left ((get_or ps i no_part).count * 4096)
     → needed (take (i + 1) ps) n ≡ needed (take i ps) n
@@ -95,7 +95,7 @@ pub needed_past : (ps : List Part) (i n : ℕ) → i < length ps → left_after 
     → needed (take (i + 1) ps) n ≡ needed (take i ps) n ++ []
 needed_past ps i n h e = needed-more ps i n h ∙ ap (λ k. needed (take i ps) n ++ needed (get_or ps i no_part ∷ []) k) e
 
--- of the first part: all bytes lie there, or it is full
+-- the bytes fit in the first part, or they fill it
 first_case : (n c : ℕ) → ((suc n < c * 4096) × (min (suc n) (c * 4096) ≡ suc n) × (suc n - c * 4096 ≡ 0))
     ⊎ ((c * 4096 ≤ suc n) × (min (suc n) (c * 4096) ≡ c * 4096))
 first_case n c = elim (cases_lt (suc n) (c * 4096)) [
@@ -103,7 +103,7 @@ first_case n c = elim (cases_lt (suc n) (c * 4096)) [
   | inr many ↦ inr (many, omega (arith, many))
 ]
 
--- The first pages of a run and of what follows.
+-- The first pages of a run and of the pages after it.
 
 take-range_less : (k a c : ℕ) (rest : List ℕ) → k ≤ c → take k (range_with_len a c ++ rest) ≡ range_with_len a k
 take-range_less zero a c rest h = refl
@@ -144,7 +144,7 @@ cover (p ∷ ps) (suc n) =
           ∙ ap (λ m. take m (part_pages (p ∷ ps))) (sym (pages_split (suc n) p.count many.0)))
     ]
 
--- the runs are apart as the parts are
+-- the runs are apart if the parts are
 pub needed_apart : (low : ℕ) (ps : List Part) (n : ℕ) → AreApart low ps → AreApart low (needed ps n)
 needed_apart low [] n apart = tt
 needed_apart low (p ∷ ps) zero apart = tt
@@ -168,7 +168,7 @@ needed_apart low (p ∷ ps) (suc n) apart =
       ],
     )
 
--- a page of the runs is one of the parts
+-- a page of the runs is a page of the parts
 needed_in : (ps : List Part) (n q : ℕ) → In (part_pages (needed ps n)) q → In (part_pages ps) q
 needed_in [] n q h = h
 needed_in (p ∷ ps) zero q h = absurd h
@@ -182,7 +182,7 @@ needed_in (p ∷ ps) (suc n) q h =
       | inr k ↦ in_right (range_with_len p.first p.count) (part_pages ps) q (needed_in ps (suc n - p.count * 4096) q k)
     ]
 
--- the pages of parts go up
+-- the pages of parts rise
 pub pages_rising : (low : ℕ) (ps : List Part) → AreApart low ps → IsRisingFrom low (part_pages ps)
 pages_rising low [] apart = tt
 pages_rising low (p ∷ ps) apart =
@@ -194,7 +194,7 @@ in_drop zero xs q h = h
 in_drop (suc k) [] q h = h
 in_drop (suc k) (x ∷ xs) q h = inr (in_drop k xs q h)
 
--- what is left of a rising list is not among what was taken
+-- an element dropped from a rising list is not among those taken
 drop_out : (low k : ℕ) (xs : List ℕ) (q : ℕ) → IsRisingFrom low xs → In (drop k xs) q → In (take k xs) q → ⊥
 drop_out low zero xs q rising h t = t
 drop_out low (suc k) [] q rising h t = t
@@ -202,14 +202,14 @@ drop_out low (suc k) (x ∷ xs) q rising h (inl e) =
     (let r = in_rising (x + 1) xs q rising.1 (in_drop k xs q h) in omega (arith, r, e))
 drop_out low (suc k) (x ∷ xs) q rising h (inr t) = drop_out (x + 1) k xs q rising.1 h t
 
--- one part published
+-- One part is published.
 
 module _ (s : State) (p : Part) (n : ℕ) (all : IsAll Pending s.limit s.entries p) (some : 0 < n)
     (fit : n ≤ p.count * 4096) where
   abbrev t : State
   t = published_part s p n
 
-  -- the pages on which the buffer lies are raised
+  -- the pages of the buffer are raised
   part_incremented : (q : ℕ) → p.first ≤ q → q < p.first + pages_for n → generation_at t q ≡ generation_at s q + 1
   unfolding published_entries
   part_incremented q lo hi =
@@ -235,7 +235,7 @@ module _ (s : State) (p : Part) (n : ℕ) (all : IsAll Pending s.limit s.entries
         ]
       ]
 
-  -- the others go back, unraised
+  -- the other pages become free, unraised
   part_left : (q : ℕ) → p.first + pages_for n ≤ q → q < p.first + p.count → entry_at t q ≡ marked Free 0 (entry_at s q)
   unfolding published_entries
   part_left q lo hi =
@@ -263,7 +263,7 @@ module _ (s : State) (p : Part) (n : ℕ) (all : IsAll Pending s.limit s.entries
   pub part_whole : kind_len (entry_at t p.first).kind ≡ n
   part_whole = ap (λ e. kind_len e.kind) (published_first s.entries p n some (omega (arith, all.within, some, fit)))
 
--- What one part became: t is before and u after, and the runs are what was filled of it.
+-- The change of one part from t to u; the runs are the pages of it that were filled.
 pub record OnPart (t u : State) (p : Part) (runs : List Part) : Type 0 where
   pub inside : (q : ℕ) → In (part_pages runs) q → In (range_with_len p.first p.count) q
   pub out : (q : ℕ) → (In (range_with_len p.first p.count) q → ⊥) → entry_at u q ≡ entry_at t q
@@ -277,7 +277,7 @@ one_run r q h = subst (λ l. In l q) (append-nil (range_with_len r.first r.count
 pub run_one : (r : Part) (q : ℕ) → In (range_with_len r.first r.count) q → In (part_pages (r ∷ [])) q
 run_one r q h = subst (λ l. In l q) (sym (append-nil (range_with_len r.first r.count))) h
 
--- a part that gets bytes
+-- bytes are published on a part
 pub part_published : (s : State) (p : Part) (n : ℕ) → IsAll Pending s.limit s.entries p → 0 < n → n ≤ p.count * 4096
     → OnPart s (published_part s p n) p ((let r : Part = record { first = p.first; count = pages_for n } in r) ∷ [])
 part_published s p n all some fit =
@@ -306,7 +306,7 @@ part_published s p n all some fit =
           ∙ usable_left s.limit (entry_at s q) (all.below q k.0 k.1));
     }
 
--- a part that is filled whole
+-- a part is filled whole
 pub part_filled : (t u : State) (p : Part) → IsSameAround p t u → Raises t u (part_pages (p ∷ []))
     → OnPart t u p (p ∷ [])
 part_filled t u p around raises = record {
@@ -320,7 +320,7 @@ part_filled t u p around raises = record {
   back = λ q a off. absurd (off (run_one p q a));
 }
 
--- a part that gets none
+-- no byte is published on a part
 pub part_dropped : (s : State) (p : Part) → IsAll Pending s.limit s.entries p
     → OnPart s (with_marked s p.first p.count Free 0) p []
 part_dropped s p all = record {
@@ -384,7 +384,7 @@ map_same f g (x ∷ xs) same =
     let rest = map_same f g xs (λ k d h. same (suc k) d (omega arith)) in
     λ i. first i ∷ rest i
 
--- one part more
+-- one more part
 module _ (s t : State) (ps : List Part) (i n : ℕ) (bufs : List BufId) (apart : AreApart 0 ps) (h : i < length ps)
     (m : Placed s t bufs (take i ps) n) where
   abbrev p : Part
@@ -396,7 +396,7 @@ module _ (s t : State) (ps : List Part) (i n : ℕ) (bufs : List BufId) (apart :
   abbrev here : List ℕ
   here = range_with_len p.first p.count
 
-  -- the part at hand is as it was
+  -- the next part is unchanged
   pub still_same : (q : ℕ) → (get_or ps i no_part).first ≤ q → entry_at t q ≡ entry_at s q
   still_same q lo = m.others q (λ a. (let r = before_part 0 ps i q apart h a in omega (arith, r, lo)))
 
@@ -487,7 +487,7 @@ begun_since s t (r ∷ rs) same =
     let rest = begun_since s t rs same in
     λ i. (let b : BufId = record { page = r.first; generation = g i + 1 } in b) ∷ rest i
 
--- made after a change that raised no page
+-- buffers are made after a change that raised no page
 pub made_since : {s t u : State} {bufs : List BufId} {placed : List ℕ}
     → ((q : ℕ) → generation_at t q ≡ generation_at s q) → MadeOn t u bufs placed → MadeOn s u bufs placed
 made_since {s = s} {t = t} same m = record {
@@ -508,7 +508,7 @@ same_but_trans m n = record { each = λ q out. n.each q out ∙ m.each q out }
 pub same_but_entries : {a b : State} (pages : List ℕ) → b.entries ≡ a.entries → IsSameBut pages a b
 same_but_entries pages e = record { each = λ q out. ap (λ (es : List Entry). entry_in es q) e }
 
--- no bytes make no buffer
+-- zero bytes make no buffer
 pub made_none : (s : State) (pages : List ℕ) → MadeOn s s [] (take (pages_for 0) pages)
 made_none s pages =
     let none : take (pages_for 0) pages ≡ [] = ap (λ k. take k pages) pages_none in

@@ -32,18 +32,19 @@ IsAtPage s ps page had need = IsSearching s ps page (page + 1) had need
 abbrev pub IsAtChunk : State → List Part → (chunk had need : ℕ) → Type 0
 IsAtChunk s ps c had need = IsSearching s ps (c * CHUNK_PAGES) ((c + 1) * CHUNK_PAGES) had need
 
--- Of these pages the search has taken the first, as many as were needed yet, after its parts: it has so many now, and
--- its parts are apart from one another and end before page `to`.
+-- The first of the pages found were added after the search's parts, as many as were still needed. The search now has
+-- `now` pages, and its parts are apart from one another and end before page `to`.
 pub record TakesPages (old new : List Part) (found : List ℕ) (need had now to : ℕ) : Type 0 where
   pub pages : part_pages new ≡ part_pages old ++ take (need - had) found
   pub have : now ≡ had + length (take (need - had) found)
   pub parts : EndBefore to new
 
--- the search took the page after its parts, if it may be used and was needed yet, and has so many pages now
+-- the page was added after the search's parts, if it may be used and was still needed; the search now has `now` pages
 abbrev pub SearchesPage : State → (old new : List Part) → (page had need now : ℕ) → Type 0
 SearchesPage s old new page had need now = TakesPages old new (if_usable s page) need had now (page + 1)
 
--- the search took the first pages of a chunk that may be used, as many as were needed yet, and has so many pages now
+-- the first usable pages of a chunk were added after the search's parts, as many as were still needed; the search now
+-- has `now` pages
 abbrev pub SearchesChunk : State → (old new : List Part) → (chunk had need now : ℕ) → Type 0
 SearchesChunk s old new c had need now =
     TakesPages old new (filter (usable s) (chunk_pages c)) need had now ((c + 1) * CHUNK_PAGES)

@@ -39,7 +39,7 @@ use Rattle.iol_arena.specs.contracts.elements.elements_at as f
 use Rattle.iol_arena.proofs.elements.elements_at.Statement.{statement}
 use Rattle.iol_arena.proofs.elements.elements_at.Code as code
 
--- a goal with two facts beside P: the facts are shown, and P is left
+-- a goal with two facts next to P: the facts are shown, and P remains
 both : {M : Type 1} {𝓤 : Ura M} {𝓛 : Logic 𝓤} {K : Type 0} {Γ : List (Item 𝓤)} → K → {φ ψ : Type 0} {P : SProp 𝓤}
     → φ × ψ
     → Step K 𝓛 Γ (prop P) Γ (prop (sep 𝓤 P (sep 𝓤 (fact 𝓤 φ) (fact 𝓤 ψ))))

@@ -8,7 +8,7 @@ use Rattle.iol_arena.proofs.Keeps.{marks_spare}
 use Rattle.iol_arena.proofs.Grows.{marks_grow}
 use Rattle.iol_arena.proofs.arena.Arena.set_pending.Goals as goal
 
--- neither kind is a buffer's
+-- a page of neither kind begins a buffer
 no_head : (b : Bool) (n : ℕ) → reserved_kind b ≡ Head n → ⊥
 no_head true n e = cc
 no_head false n e = cc
