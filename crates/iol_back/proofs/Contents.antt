@@ -12,7 +12,7 @@ use Rattle.std.proofs.lemmas.Grind.{common_steps}
 use Rattle.iol_core.proofs.Lookups.{numbered_or-push}
 use Rattle.iol_back.specs.Disk.{content, length_reported, lengths_of}
 
--- there is none
+-- there is no file with this number
 pub content-none : (slots : List (List ℕ)) (n : ℕ) → (n ≡ 0) ⊎ (length slots < n) → content slots n ≡ []
 unfolding content
 content-none slots n out = elim out [
@@ -20,7 +20,7 @@ content-none slots n out = elim out [
   | inr past ↦ grind (arith, nat_tests, common_steps, past)
 ]
 
--- as it stands in a list
+-- the bytes of an element of the list
 pub content-map : {A : Type 0} (f : A → List ℕ) (xs : List A) (n : ℕ) (d : A) → 0 < n → n ≤ length xs
     → content (map f xs) n ≡ f (get_or xs (n - 1) d)
 unfolding content
@@ -57,14 +57,14 @@ content-set_other f xs n m x some within other = elim (cases_eq m 0) [
   ]
 ]
 
--- with an empty one more
+-- an empty file is added
 pub content-push_none : {A : Type 0} (f : A → List ℕ) (xs : List A) (x : A) (n : ℕ) → f x ≡ []
     → content (map f (xs ++ x ∷ [])) n ≡ content (map f xs) n
 content-push_none f xs x n none =
     ap (λ (r : List (List ℕ)). content r n) (map-append f xs (x ∷ []) ∙ ap (λ (w : List ℕ). map f xs ++ w ∷ []) none)
     ∙ content-push (map f xs) n
 
--- a file that has bytes is there
+-- a file that has bytes exists
 pub content-some : {A : Type 0} (f : A → List ℕ) (xs : List A) (n : ℕ) → 0 < length (content (map f xs) n)
     → n ≤ length xs
 content-some f xs n some = elim (cases_lt (length xs) n) [
@@ -75,9 +75,9 @@ content-some f xs n some = elim (cases_lt (length xs) n) [
     none : length (map f xs) < n → ⊥
     none past = let e = content-none (map f xs) n (inr past) in let zero = ap length e in omega (arith, zero)
 
--- The lengths that are told.
+-- The lengths that are reported.
 
--- of files of these bytes
+-- the lengths of files of these bytes
 pub reported-lengths : (slots : List (List ℕ)) (n : ℕ)
     → length_reported (lengths_of slots) n ≡ min (length (content slots n)) (2 ^ 32 - 1)
 unfolding content length_reported
@@ -91,7 +91,7 @@ reported-lengths slots n = by (n == 0)
     by true = refl
     by false = lists.get_or-map cut slots (n - 1) []
 
--- there is none
+-- there is no file with this number
 pub reported-none : (reported : List ℕ) (n : ℕ) → (n ≡ 0) ⊎ (length reported < n) → length_reported reported n ≡ 0
 unfolding length_reported
 reported-none reported n out = elim out [
@@ -99,7 +99,7 @@ reported-none reported n out = elim out [
   | inr past ↦ grind (arith, nat_tests, common_steps, past)
 ]
 
--- as it stands in the list
+-- the length in the list
 pub reported-some : (reported : List ℕ) (n x : ℕ) → 0 < n → slice_get reported (n - 1) ≡ Some x
     → length_reported reported n ≡ x
 unfolding length_reported

@@ -2,7 +2,7 @@
 use Rattle.std.proofs.Common.{◌≡◌, [], ◌∷◌, refl, codes}
 use Rattle.iol_back.specs.Disk.{content, overwritten, raised, last_failure}
 
--- files are numbered from 1, and those that are not there are empty
+-- files are numbered from 1, and a number without a file has no bytes
 second : content (codes "ab" ∷ codes "cde" ∷ []) 2 ≡ codes "cde"
 unfolding content
 second = refl
@@ -15,7 +15,7 @@ past : content (codes "ab" ∷ []) 3 ≡ []
 unfolding content
 past = refl
 
--- inside, over the end, and right behind it
+-- a write within the bytes, across their end, and at their end
 inside : overwritten 2 (codes "XY") (codes "abcdef") ≡ codes "abXYef"
 inside = refl
 
@@ -25,7 +25,7 @@ over_the_end = refl
 behind : overwritten 3 (codes "XY") (codes "abc") ≡ codes "abcXY"
 behind = refl
 
--- failures end at the last number
+-- the count of failures ends at its maximum
 first_failure : raised 0 ≡ 1
 first_failure = refl
 

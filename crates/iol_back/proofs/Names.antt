@@ -19,7 +19,7 @@ precedes-other a b before same =
 pub distinct_of_rising : (names : List (List ℕ)) → AreRising names → AreDistinct names
 distinct_of_rising names rising i j d below inside = precedes-other _ _ (rising i j d below inside)
 
--- what the last name is before, all are
+-- if the last name is before another name, all names are
 pub all_precede : (names : List (List ℕ)) (place : ℕ) (last name : List ℕ) → AreRising names → place ≡ length names - 1
     → slice_get names place ≡ Some last → Precedes last name → All (λ other. Precedes other name) names
 all_precede names place last name rising is found before k d inside =

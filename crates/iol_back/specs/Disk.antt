@@ -1,4 +1,4 @@
--- What a contract sees of a backing store.
+-- A backing store, as contracts see it.
 use Rattle.std.specs.Prelude.{◌≡◌, ◌≢◌, ℕ, ◌+◌, ◌<◌, ◌≤◌, ◌^◌, ◌-◌, ◌⊎◌, Bool, List, [], ◌++◌, length, map, take}
 use Rattle.std.specs.Prelude.{drop, min, max, slice_index, Result, Ok, Err, OnOk, OnErr, IsTrue}
 use Rattle.iol_core.specs.NumberedLists.{numbered_or}
@@ -22,7 +22,7 @@ IsSlot f = (0 < f) × (f ≤ MAX_FILES)
 unfoldable pub content : (slots : List (List ℕ)) → (file : ℕ) → List ℕ
 content slots f = numbered_or slots f []
 
--- the length that is told of a file: none past the last
+-- the reported length of a file: 0 past the last file
 unfoldable pub length_reported : (reported : List ℕ) → (file : ℕ) → ℕ
 length_reported reported f = numbered_or reported f 0
 
@@ -34,7 +34,7 @@ lengths_of slots = map (λ bytes. min (length bytes) (2 ^ 32 - 1)) slots
 abbrev pub last_failure : ℕ
 last_failure = 2 ^ 64 - 1
 
--- one failure more
+-- one more failure is counted
 abbrev pub raised : ℕ → ℕ
 raised n = min (n + 1) last_failure
 
@@ -55,7 +55,7 @@ IfHonest disk P = IsTrue disk.honest → P
 abbrev pub IsHonestLength : Disk → (file n : ℕ) → Type 0
 IsHonestLength disk file n = IfHonest disk (n ≡ min (length (content disk.slots file)) (2 ^ 32 - 1))
 
--- whether a store that still answers has the range
+-- the store has not failed too often, and its file has the range
 abbrev pub CanRead : Disk → (file at count : ℕ) → Type 0
 CanRead disk file at count =
     (disk.failures < last_failure) × IsSlot file × (at + count ≤ length (content disk.slots file))
@@ -65,11 +65,11 @@ pub record Reads (at : ℕ) (bytes old new : List ℕ) : Type 0 where
   pub within : at + length old ≤ length bytes
   pub read : new ≡ take (length old) (drop at bytes)
 
--- all files have the bytes that they had
+-- the bytes of all files are unchanged
 pub record AllStay (old new : List (List ℕ)) : Type 0 where
   pub each : (f : ℕ) → content new f ≡ content old f
 
--- all files but this have the bytes that they had
+-- the bytes of all files except this one are unchanged
 pub record OthersStay (file : ℕ) (old new : List (List ℕ)) : Type 0 where
   pub each : (f : ℕ) → f ≢ file → content new f ≡ content old f
 

@@ -5,7 +5,7 @@ use Rattle.iol_back.proofs.Contents.{content-map, content-some, content-set_same
 use Rattle.iol_back.proofs.slots.write_list.Goals.{After-index_mut}
 use Rattle.iol_back.proofs.slots.write_list.Goals as goal
 
--- what the list at hand has, its file had
+-- the list has the bytes that its file had
 was : (c : After-index_mut) → c.index_mut.result.now.items ≡ content (items_of c.args.lists.now.items) c.args.number
 was c =
     ap (λ v. v.items) c.index_mut.ensures.value
