@@ -41,7 +41,7 @@ use Rattle.iol_core.proofs.KeptAccess.{may_read_files-closed_on, may_read_files-
 use Rattle.iol_core.proofs.KeptAccess.{access_opened, access_moved, may_have-file, may_have-open, access_closed_on}
 use Rattle.iol_core.proofs.KeptAccess.{access_all_closed}
 
--- a call after which all have what they may, where it is not refused
+-- if access holds before a call that is not refused, it holds after it
 abbrev pub KeepsAccess : {A : Type 0} → State → Meaning A → Type 0
 KeepsAccess s m = HasAccess s → first m.refusals ≡ None → HasAccess m.after
 
@@ -195,7 +195,7 @@ access_given s by fd to x h mine theirs = cases (by == to)
         access_fds (fds.opened s to x) by (fds.freed s by fd) (access_opened s to x h theirs)
         (may_read_files-opened s to x by (fds.freed s by fd) may)
 
--- who is given a descriptor on a file may read its pool
+-- the receiver of a descriptor may have it, if giving it is not denied
 may_have-given : (s : State) (to : ℕ) (x : Descriptor) → fds.denied_by s to (fds.needed_pool s (Some x)) ≡ None
     → MayHave s to x
 may_have-given s to (on.File f at mode) unrefused =
@@ -246,7 +246,7 @@ access_read_on s by fd (Some (on.WriteEnd p)) count open_on h = h
 access_read_on s by fd (Some (on.Connection c)) count open_on h =
     access_conn s c (record (conn_at s c) { incoming = drop count (conn_at s c).incoming }) h
 
--- reading changes no list of a pool
+-- a read leaves the pools unchanged
 pools_read_on : (s : State) (by fd : ℕ) (from : Option Descriptor) (count : ℕ)
     → (reading.read_on s by fd from count).pools ≡ s.pools
 unfolding with_domain with_pipe with_conn
@@ -256,7 +256,7 @@ pools_read_on s by fd (Some (on.ReadEnd p)) count = refl
 pools_read_on s by fd (Some (on.WriteEnd p)) count = refl
 pools_read_on s by fd (Some (on.Connection c)) count = refl
 
--- a queue's text is what the reader may see of it; a file's pool is tested as a whole
+-- a reader may see the bytes that it reads: of a queue it reads only those, and the pool of a file is tested first
 may_see-read_text : (s : State) (by : ℕ) (from : Option Descriptor) (n : ℕ) → reading.read_denied s by from n ≡ None
     → may_see s by (reading.read_text s by from n) ≡ true
 may_see-read_text s by None n may = list_all-take_while (λ b. may_read s by b.1) (take n [])
@@ -283,7 +283,7 @@ access_read : (s : State) (by fd n : ℕ) → KeepsAccess s (reading.read s by f
 access_read s by fd n h unrefused =
     access_read_on s by fd (descriptor s by fd) (length (reading.read_text s by (descriptor s by fd) n)) refl h
 
--- a file's bytes are written over, and the position moves
+-- the bytes of a file and the position of its descriptor change
 access_filled : (s : State) (by fd f at to : ℕ) (mode : Mode) (bytes : List ℕ)
     → descriptor s by fd ≡ Some (on.File f at mode) → HasAccess s
     → HasAccess (fds.with_descriptor (with_content s f bytes) by fd (Some (on.File f to mode)))
@@ -395,7 +395,7 @@ access_called s by (call.Read fd n) = access_read s by fd n
 access_called s by (call.Write fd bytes) = access_write s by fd bytes
 access_called s by call.Accept = access_accept s by
 
--- What happens outside changes no domain and no list.
+-- External events change no domain and no list.
 
 access_meaning : (s : State) (e : Event) → KeepsAccess s (meaning s e)
 access_meaning s (event.Call by c) = access_called s by c

@@ -16,7 +16,7 @@ use Rattle.iol_core.proofs.Lookups.{domain-with_domain, domain-same, may_read-sa
 use Rattle.iol_core.proofs.Places.{place-set, place-freed, place-placed}
 use Rattle.iol_core.proofs.TestedLists.{list_all-weaker, list_all-push, list_all-without, list_all-lookup}
 
--- what a domain may be
+-- domain d may be x: x may read its aggregates, its default pool and the files that it has open
 pub record IsAllowed (s : State) (d : ℕ) (x : Domain Text) : Type 0 where
   pub aggs : MaySeeAll s d x.aggs
   pub default : (p : ℕ) → x.default ≡ Some p → may_read s d p ≡ true
@@ -25,11 +25,11 @@ pub record IsAllowed (s : State) (d : ℕ) (x : Domain Text) : Type 0 where
 pub allowed : (s : State) → HasAccess s → (d : ℕ) → IsAllowed s d (domain s d)
 allowed s h d = record { aggs = h.aggs d; default = h.default d; fds = h.fds d }
 
--- no domain may read less
+-- each domain may still read the pools that it could read
 abbrev pub KeepsReaders : State → State → Type 0
 KeepsReaders s t = (d p : ℕ) → may_read s d p ≡ true → may_read t d p ≡ true
 
--- nor less of any file
+-- each domain may still read the pools of the files that it could read
 abbrev pub KeepsFileReaders : State → State → Type 0
 KeepsFileReaders s t = (d f : ℕ) → may_read s d (file s f).pool ≡ true → may_read t d (file t f).pool ≡ true
 
@@ -47,7 +47,7 @@ access_after s t keeps files each = record {
   fds = λ d fd f at mode is. files d f ((each d).fds fd f at mode is);
 }
 
--- domains, lists and files are the same
+-- the domains, pools and files are unchanged
 pub access_same : (s t : State) → HasAccess s → t.domains ≡ s.domains → t.pools ≡ s.pools → t.files ≡ s.files
     → HasAccess t
 access_same s t h domains pools files =
@@ -107,17 +107,17 @@ access_without_agg s d a h =
     access_domain s d (record (domain s d) { aggs = without (domain s d).aggs a }) h
     (record { aggs = all; default = h.default d; fds = h.fds d })
 
--- what a domain has under a number
+-- a domain may see the bytes of its aggregate
 pub may_see-text : (s : State) (d a : ℕ) → HasAccess s → may_see s d (text s d a) ≡ true
 may_see-text s d a h = list_all-lookup (may_see s d) (domain s d).aggs a [] refl (h.aggs d)
 
 -- Descriptors.
 
--- whether a domain may have a descriptor on this
+-- the domain may have the descriptor: if it is on a file, the domain may read the file's pool
 abbrev pub MayHave : State → (d : ℕ) → Descriptor → Type 0
 MayHave s d x = (f at : ℕ) (mode : Mode) → x ≡ on.File f at mode → may_read s d (file s f).pool ≡ true
 
--- lists and files are the same
+-- the pools and files are unchanged
 pub may_read_files-same : (s t : State) (d : ℕ) (xs : List (Option Descriptor)) → t.pools ≡ s.pools → t.files ≡ s.files
     → MayReadFiles s d xs → MayReadFiles t d xs
 may_read_files-same s t d xs pools files may g f at mode is =
@@ -154,13 +154,13 @@ pub may_read-set : (s : State) (d n : ℕ) (xs : List (Option Descriptor)) (x : 
 may_read-set s d n xs x may one g f at mode is =
     elim (place-set xs n g x (on.File f at mode) is) [ inl new ↦ one f at mode new | inr old ↦ may g f at mode old ]
 
--- one more is open
+-- a further descriptor is opened
 pub access_opened : (s : State) (d : ℕ) (x : Descriptor) → HasAccess s → MayHave s d x → HasAccess (fds.opened s d x)
 access_opened s d x h may =
     access_fds s d (placed (domain s d).fds (fds.next_fd s d) x) h
     (may_read-placed s d (fds.next_fd s d) (domain s d).fds x (h.fds d) may)
 
--- a descriptor on a file is moved or opened otherwise
+-- a descriptor is replaced
 pub access_moved : (s : State) (d fd : ℕ) (x : Descriptor) → HasAccess s → MayHave s d x
     → HasAccess (fds.with_descriptor s d fd (Some x))
 access_moved s d fd x h may =
@@ -185,7 +185,7 @@ access_closed_on s (Some (on.WriteEnd p)) h = access_pipe s p (record (pipe_at s
 access_closed_on s (Some (on.Connection c)) h =
     access_conn s c (record (conn_at s c) { incoming = []; closed = true }) h
 
--- and all of a list
+-- all descriptors of a list are closed
 pub access_all_closed : (s : State) (list : List (Option Descriptor)) → HasAccess s
     → HasAccess (fold fds.closed_on s list)
 access_all_closed s [] h = h

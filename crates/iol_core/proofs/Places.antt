@@ -11,7 +11,7 @@ pub place-set_other : {A : Type 0} (xs : List (Option A)) (n m : ℕ) (o : Optio
     → in_place (slice_set xs n o) m ≡ in_place xs m
 place-set_other xs n m o differ = grind (arith, nat_tests, common_steps, differ)
 
--- what stands there is the new one, or stood there before
+-- after the element at n is set, that at m is the new one, or it was there before
 pub place-set : {A : Type 0} (xs : List (Option A)) (n m : ℕ) (x y : A) → in_place (slice_set xs n (Some x)) m ≡ Some y
     → (x ≡ y) ⊎ (in_place xs m ≡ Some y)
 place-set {A = A} xs n m x y is = elim (cases_eq n m) [

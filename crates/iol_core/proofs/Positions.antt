@@ -38,14 +38,14 @@ use Rattle.iol_core.proofs.Lookups.{domain-with_domain, domain-same, domain-push
 use Rattle.iol_core.proofs.Places.{place-set, place-freed, place-placed}
 use Rattle.iol_core.proofs.TestedLists.{passed, when-none}
 
--- what is open lies within
+-- if the descriptor is on a file, its position is in the file
 abbrev IsWithin : State → Descriptor → Type 0
 IsWithin s x = (f at : ℕ) (mode : Mode) → x ≡ on.File f at mode → IsPlace s f at
 
 abbrev AreWithin : State → List (Option Descriptor) → Type 0
 AreWithin s xs = (fd f at : ℕ) (mode : Mode) → in_place xs fd ≡ Some (on.File f at mode) → IsPlace s f at
 
--- the files that were are there, none of them shorter
+-- each file still exists, and none is shorter
 record Grows (s t : State) : Type 0 where
   slots : length t.slots ≡ length s.slots
   few : length s.files ≤ MAX_FILES → length t.files ≤ MAX_FILES
@@ -98,7 +98,7 @@ placed_domain s d x h new = placed_by s (with_domain s d x) h (grows_same s (wit
       | inr same ↦ subst (λ (y : Domain Text). AreWithin s y.fds) (sym same) (within_of s h e)
     ]
 
--- its descriptors stay
+-- the descriptors of the domain are unchanged
 placed_kept : (s : State) (d : ℕ) (x : Domain Text) → x.fds ≡ (domain s d).fds → ArePlaced s
     → ArePlaced (with_domain s d x)
 placed_kept s d x same h = placed_domain s d x h (subst (AreWithin s) (sym same) (within_of s h d))
@@ -266,7 +266,7 @@ placed_accept s by h =
     placed_opened taken by (on.Connection c) (placed_conn s c _ h)
     (not_file taken (on.Connection c) (λ f at mode is. cc))
 
--- a part of what lies past a place
+-- bytes taken from a position on end within the file
 part_fits : (at n : ℕ) (bytes : List ℕ) → at ≤ length bytes → at + length (take n (drop at bytes)) ≤ length bytes
 part_fits at n bytes fits = grind (arith, nat_tests, common_steps, fits)
 
@@ -298,7 +298,7 @@ placed_iol_read s by fd n h =
     placed_kept (reading.read_on s by fd from (length (reading.read_text s by from n))) by _ refl
     (placed_read_on s by fd n from refl h)
 
--- a file that has a slot has other bytes, no fewer
+-- The bytes of a file that has a slot are set, to no fewer.
 with-numbered : {A : Type 0} (xs : List A) (n : ℕ) (x z : A) → is_numbered xs n ≡ true
     → numbered_or (with_numbered xs n x) n z ≡ x
 with-numbered xs n x z there = grind (arith, nat_tests, common_steps, there)
@@ -415,7 +415,7 @@ placed_file_new s by name p h unrefused = placed_grown s (files.file_new s by na
     same_len f = (let e = ap (λ (l : List ℕ). length l) (content-same s (files.file_new s by name p).after refl f) in
         omega (arith, e))
 
--- the number of a name is that of a file
+-- the number found for a name is that of a file
 called-there : (s : State) (name : List ℕ) → is_none (files.file_called s name) ≡ false
     → is_numbered s.files (unwrap_or (files.file_called s name) 0) ≡ true
 called-there s name found = by (position (λ f. bytes_eq f.name name) s.files) refl found

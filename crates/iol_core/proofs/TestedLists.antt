@@ -84,7 +84,7 @@ list_all-labelled f p [] may = refl
 list_all-labelled f p (x ∷ bytes) may = let r = list_all-labelled f p bytes may in
     grind (arith, nat_tests, common_steps, r, may)
 
--- none is barred, so each may be read
+-- if no byte is barred, each may be read
 pub list_all-barred : (may : ℕ → Bool) (t : Text) → option_map Denied (barred may t) ≡ None
     → list_all (λ b. may b.1) t ≡ true
 list_all-barred may [] none = refl

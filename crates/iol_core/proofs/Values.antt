@@ -32,7 +32,7 @@ use Rattle.iol_core.specs.declared.events.Event.TheVariants as event
 use Rattle.iol_core.specs.declared.events.Reply.{Reply}
 use Rattle.iol_core.proofs.Lookups.{domain-with_domain, domain-same, domain-push, lookup-append, lookup-without}
 
--- what is given up, as a test of a domain and a number
+-- the aggregates that are given up: a test of a domain and a number
 abbrev pub Given : Type 0
 Given = (d a : ℕ) → Bool
 
@@ -42,7 +42,7 @@ nothing d a = false
 abbrev pub one_of : (by b : ℕ) → Given
 one_of by b d a = (by == d) && (b == a)
 
--- all values but those given up
+-- each aggregate that is not given up is unchanged
 abbrev pub KeepsValues : (s t : State) → Given → Type 0
 KeepsValues s t given = (d a : ℕ) (x : Text) → aggregate s d a ≡ Some x → given d a ≡ false → aggregate t d a ≡ Some x
 
@@ -341,7 +341,7 @@ values_called s by (call.Read fd n) = values_read s by fd n
 values_called s by (call.Write fd bytes) = values_write s by fd bytes
 values_called s by call.Accept = values_accept s by
 
--- After each step, and after a run in which nobody gives it up.
+-- After each step, and after a run in which no event gives the aggregate up.
 
 values_outcome : {A : Type 0} (m : Meaning A) (old new : State) (r : Result A Refusal) (given : Given)
     → KeepsValues old m.after given → Step m old r new → KeepsValues old new given

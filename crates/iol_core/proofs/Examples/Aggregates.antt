@@ -11,7 +11,7 @@ use Rattle.iol_core.proofs.Examples.World.{answered, caller, world, with_receive
 use Rattle.iol_core.specs.Calls.Aggregates.{agg_make, agg_dup, agg_cut, agg_split, agg_join, agg_replace, agg_drop}
 use Rattle.iol_core.specs.Calls.Aggregates.{agg_give, show}
 
--- domain 1 with no aggregate number left, with one left, and placing in a pool that was closed since
+-- domain 1 with no aggregate number left, with one left, and with a closed pool as its default pool
 abbrev tired : State
 tired = record world { domains = record caller { next_agg = LAST_AGGREGATE + 1 } ∷ new_domain ∷ no_domain ∷ [] }
 
@@ -26,7 +26,7 @@ agg_make_too_long : (bytes : List ℕ) → length bytes ≡ MAX_AGGREGATE_BYTES 
 unfolding domain pool file content pipe_at conn_at with_domain with_pipe with_conn with_content
 agg_make_too_long bytes long = rw long refl
 
--- an aggregate of some length beside "cd"
+-- aggregate 1 has this text, and aggregate 2 is "cd"
 abbrev beside : Text → State
 beside t =
     record world {

@@ -10,7 +10,7 @@ use Rattle.iol_core.specs.declared.limits.TheConstants.{MAX_OPEN, MAX_PIPES}
 use Rattle.iol_core.proofs.Examples.World.{answered, world, with_receiver}
 use Rattle.iol_core.specs.Calls.Descriptors.{pipe, give_fd, close, accept}
 
--- no pipe yet, and as many as may be; a domain with as many descriptors as it may have
+-- no pipe; as many pipes as the limit; a domain with as many descriptors as the limit
 abbrev quiet : State
 quiet = record world { pipes = [] }
 

@@ -20,7 +20,7 @@ domain_new_refused :
 unfolding domain pool file content pipe_at conn_at with_domain with_pipe with_conn with_content
 domain_new_refused = (refl, refl)
 
--- closes both ends of a pipe, one after the other: the pipe is gone; what a connection has to send stays
+-- `exit` closes both ends of a pipe, which is then removed; the queued output of a connection stays
 exit_leaves_nothing :
     (answered (exit world 1) ≡ Ok tt)
     × (is_live (exit world 1).after 1 ≡ false)

@@ -48,7 +48,7 @@ arrive_refused :
 unfolding domain pool file content pipe_at conn_at with_domain with_pipe with_conn with_content
 arrive_refused = (refl, refl, refl)
 
--- gone stays gone and takes nothing; a connection that nobody accepted is over then
+-- a peer that is gone stays gone, and its output is dropped; a connection that was never accepted is then removed
 peer_closed_and_gone :
     (answered (peer_closed world 1 how.Done) ≡ Ok tt)
     × ((conn_at (peer_closed world 1 how.Done).after 1).peer ≡ Some how.Done)

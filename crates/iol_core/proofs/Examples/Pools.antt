@@ -10,7 +10,7 @@ use Rattle.iol_core.specs.declared.limits.TheConstants.{MAX_POOLS}
 use Rattle.iol_core.proofs.Examples.World.{answered, world}
 use Rattle.iol_core.specs.Calls.Pools.{pool_create, pool_close, pool_admit, set_pool}
 
--- no pools yet; many domains; as many pools as there may be; no file and no connection
+-- no pool; 17 domains and no pool; as many pools as the limit; no file and no connection
 abbrev empty : State
 empty = record world { pools = [] }
 
@@ -61,7 +61,7 @@ pool_close_refused :
 unfolding domain pool file content pipe_at conn_at with_domain with_pipe with_conn with_content
 pool_close_refused = (refl, refl, refl, refl, refl, refl, refl)
 
--- pool 2 names as many domains as a pool may, and not the caller; pool 3 names domain 2 alone
+-- pool 2 lists sixteen domains, without domain 1; pool 3 lists only domain 2, and is closed
 abbrev listed : State
 listed = record many {
   pools =

@@ -12,8 +12,8 @@ use Rattle.iol_core.specs.declared.limits.TheConstants.{LAST_AGGREGATE}
 use Rattle.iol_core.proofs.Examples.World.{answered, caller, world, with_receiver}
 use Rattle.iol_core.specs.Calls.Reads.{iol_read, read}
 
--- the pipe's read end is domain 2's; the pipe is empty, and open or ended at the write end;
--- file 1 is open for writing alone; no aggregate number is left
+-- domain 2 has the pipe's read end; the pipe is empty, with an open or a closed write end; file 1 is open only for
+-- writing; no aggregate number is left
 abbrev other : State
 other = with_receiver world (record (new_domain {A = Text}) { fds = Some (on.ReadEnd 0) ∷ [] })
 
@@ -50,7 +50,7 @@ iol_read_of_a_queue :
 unfolding domain pool file content pipe_at conn_at with_domain with_pipe with_conn with_content
 iol_read_of_a_queue = (refl, refl, refl, refl, refl, refl)
 
--- no byte is asked for, or none will come
+-- no byte is requested, or the pipe is empty and its write end is closed
 iol_read_at_the_end :
     (answered (iol_read world 1 1 0) ≡ Ok 3)
     × (text (iol_read world 1 1 0).after 1 3 ≡ [])

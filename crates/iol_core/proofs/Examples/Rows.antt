@@ -14,7 +14,7 @@ use Rattle.iol_core.specs.declared.events.Reply.{Reply}
 use Rattle.iol_core.specs.declared.events.Reply.TheVariants as reply
 use Rattle.iol_core.specs.declared.refusals.Refusal.TheVariants as refusal
 
--- the replies where room, memory and the store suffice
+-- the reply if pages, memory and the store suffice: the first refusal, or the answer
 abbrev reply_to : Meaning Reply → Reply
 reply_to m = unwrap_or (option_map reply.Refused (first m.refusals)) m.answer
 
@@ -25,15 +25,15 @@ abbrev replies : State → List Event → List Reply
 replies s [] = []
 replies s (e ∷ es) = reply_to (meaning s e) ∷ replies (state_after s (meaning s e)) es
 
--- from the first state on, each event has the reply beside it
+-- in a run from the first state, each event has the reply next to it
 abbrev Answers : List (Event × Reply) → Type 0
 Answers rows = replies (new_state no_slots) (map (λ row. row.0) rows) ≡ map (λ row. row.1) rows
 
--- so many domains more than the first
+-- domain 1 makes n domains
 abbrev new_domains : ℕ → List (Event × Reply)
 new_domains n = map (λ d. (event.Call 1 call.DomainNew, reply.Domain d)) (range_with_len 2 n)
 
--- "hello" as domain 1's first aggregate, in a pool for these domains
+-- domain 1 makes its first aggregate, "hello", in a pool for these domains
 abbrev hello_in : List ℕ → List (Event × Reply)
 hello_in list =
     (event.Call 1 (call.PoolCreate 1 list), reply.Pool 1) ∷
@@ -66,7 +66,7 @@ reader_not_named :
 unfolding domain pool file content pipe_at conn_at with_domain with_pipe with_conn with_content
 reader_not_named = refl
 
--- its bytes stay readable until the aggregate is given up, whose number is not used again
+-- the bytes of a closed pool stay readable until their aggregate is dropped, and its number is not used again
 closed_pool_stays_readable :
     Answers (
     hello_in (1 ∷ []) ++
@@ -83,7 +83,7 @@ closed_pool_stays_readable :
 unfolding domain pool file content pipe_at conn_at with_domain with_pipe with_conn with_content
 closed_pool_stays_readable = refl
 
--- each piece of an aggregate under a new number; what is split, joined or given away is gone
+-- each new aggregate has a new number; an aggregate that was split, joined or given is consumed
 aggregates_rearranged :
     Answers (
     hello_in (1 ∷ []) ++
@@ -101,7 +101,7 @@ aggregates_rearranged :
 unfolding domain pool file content pipe_at conn_at with_domain with_pipe with_conn with_content
 aggregates_rearranged = refl
 
--- what an ended domain wrote can be read, and then nothing more comes
+-- the bytes that an ended domain wrote can be read, and then the pipe is at its end
 exit_ends_a_pipe :
     Answers (
     new_domains 1 ++ hello_in (1 ∷ 2 ∷ []) ++
@@ -118,7 +118,7 @@ exit_ends_a_pipe :
 unfolding domain pool file content pipe_at conn_at with_domain with_pipe with_conn with_content
 exit_ends_a_pipe = refl
 
--- nobody reads it any more; when both ends are closed it is gone
+-- a write to a pipe without a read end is refused; when both ends are closed, the pipe is removed
 close_breaks_a_pipe :
     Answers (
     hello_in (1 ∷ []) ++
@@ -131,7 +131,7 @@ close_breaks_a_pipe :
 unfolding domain pool file content pipe_at conn_at with_domain with_pipe with_conn with_content
 close_breaks_a_pipe = refl
 
--- who is admitted may be given what lies in the pool already; who is not on the list admits nobody
+-- a domain that was admitted can get bytes that were already in the pool; only a listed domain can admit others
 admitted_then_given :
     Answers (
     new_domains 1 ++
@@ -151,7 +151,7 @@ admitted_then_given :
 unfolding domain pool file content pipe_at conn_at with_domain with_pipe with_conn with_content
 admitted_then_given = refl
 
--- a list of sixteen names takes no more, and one that it has already changes nothing
+-- a list of sixteen domains refuses another one, and accepts one that it already has
 list_of_sixteen :
     Answers (
     new_domains 16 ++ (
@@ -163,7 +163,7 @@ list_of_sixteen :
 unfolding domain pool file content pipe_at conn_at with_domain with_pipe with_conn with_content
 list_of_sixteen = refl
 
--- what waits in a pipe may be read by whom the pool came to name since
+-- a domain can read bytes in a pipe once it is admitted to their pool
 admitted_then_read :
     Answers (
     new_domains 2 ++

@@ -10,7 +10,7 @@ use Rattle.iol_core.specs.declared.events.Event.TheVariants as event
 use Rattle.iol_core.specs.declared.events.Reply.TheVariants as reply
 use Rattle.iol_core.proofs.Examples.World.{caller, world}
 
--- aggregate 1 lies in the places 7 and 8, aggregate 2 in the place 3
+-- aggregate 1 is at the addresses 7 and 8, aggregate 2 at the address 3
 abbrev layout : State
 layout =
     record world {
@@ -18,7 +18,7 @@ layout =
           ∷ new_domain ∷ [];
     }
 
--- the joined one lies where its two parts do, and the piece cut out where it was
+-- the joined aggregate is at the addresses of its two parts, and the part cut out keeps its address
 shared_places :
     LaysOut layout (event.Call 1 (call.AggJoin 1 2)) (reply.Agg 3) (called layout 1 (call.AggJoin 1 2)).after
     × (text (called layout 1 (call.AggJoin 1 2)).after 1 3 ≡ labelled 1 (7 ∷ 8 ∷ []) ++ labelled 2 (3 ∷ []))

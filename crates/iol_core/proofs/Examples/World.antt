@@ -8,13 +8,13 @@ use Rattle.iol_core.specs.declared.refusals.Refusal.{Refusal}
 use Rattle.iol_core.specs.declared.descriptors.Descriptor.TheVariants as on
 use Rattle.iol_core.specs.declared.descriptors.Mode.TheVariants as mode
 
--- the first refusal, else the answer
+-- the first refusal, or the answer
 abbrev pub answered : {A : Type 0} → Meaning A → Result A Refusal
 answered m = elim (first m.refusals) [ None ↦ Ok m.answer | Some x ↦ Err x ]
 
--- Domain 1 calls, domain 2 lives too, domain 3 has ended.
--- Pool 1 names both, pool 2 only domain 1, pool 3 only domain 2; pool 4 names both and is closed.
--- Domain 1 has aggregate 1, "ab" in pool 1, and aggregate 2, "cd" in pool 2.
+-- Domain 1 is the caller, domain 2 is live too, domain 3 has ended. Pool 1 lists domains 1 and 2, pool 2 only domain 1,
+-- pool 3 only domain 2; pool 4 lists domains 1 and 2 and is closed. Domain 1 has aggregate 1, "ab" in pool 1, and
+-- aggregate 2, "cd" in pool 2.
 abbrev pub caller : Domain Text
 caller = record {
   live = true;
@@ -25,8 +25,8 @@ caller = record {
   default = Some 1;
 }
 
--- Pipe 0 holds "ab" in pool 1, then "cd" in pool 2. Nobody reads pipe 2 any more.
--- Connection 1 is of domain 1. Connection 2 waits for a domain of pool 3, connection 3 for one of pool 1.
+-- Pipe 0 holds "ab" in pool 1, then "cd" in pool 2. The read end of pipe 2 is closed. Connection 1 is of domain 1.
+-- Connection 2 waits for a domain of pool 3, connection 3 for one of pool 1.
 abbrev pub world : State
 world = record {
   domains = caller ∷ new_domain ∷ no_domain ∷ [];
@@ -57,6 +57,6 @@ world = record {
   next_conn = 4;
 }
 
--- domain 2 with another descriptor table, or nothing to place in
+-- domain 2 is d
 abbrev pub with_receiver : State → Domain Text → State
 with_receiver s d = record s { domains = caller ∷ d ∷ no_domain ∷ [] }

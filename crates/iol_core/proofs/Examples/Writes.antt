@@ -12,7 +12,7 @@ use Rattle.iol_core.specs.declared.limits.TheConstants.{MAX_FILE_BYTES, MAX_QUEU
 use Rattle.iol_core.proofs.Examples.World.{answered, caller, world, with_receiver}
 use Rattle.iol_core.specs.Calls.Writes.{iol_write, write}
 
--- the file's position at its end, and where no second byte fits; a closed pool to place in
+-- the file's position is at its end, or one byte before the limit of a file; the default pool is closed
 abbrev at_position : ℕ → State
 at_position at =
     record world { domains = record caller { fds = Some (on.File 1 at mode.Both) ∷ [] } ∷ new_domain ∷ no_domain ∷ [] }
@@ -26,7 +26,7 @@ far = at_position (MAX_FILE_BYTES - 1)
 abbrev placing_in_closed : State
 placing_in_closed = record world { domains = record caller { default = Some 4 } ∷ new_domain ∷ no_domain ∷ [] }
 
--- a pipe with a queue of some length
+-- the queue of pipe 0
 abbrev with_queue : Text → State
 with_queue q = record world { pipes = Some (record { queue = q; reading = true; writing = true }) ∷ [] }
 
