@@ -1,4 +1,4 @@
--- Lists with holes: what is there, found, taken, added and exchanged.
+-- Lists with holes: entries that are found, taken, added and exchanged.
 use Rattle.std.proofs.Common.{◌≡◌, ◌≢◌, ℕ, zero, suc, ◌+◌, ◌-◌, ◌<◌, ◌≤◌, List, [], ◌∷◌, ◌++◌, length, get_or, Option}
 use Rattle.std.proofs.Common.{Some, None, inl, inr, arith, refl, sym, subst, true, ap, ◌∙◌, filter, length-append}
 use Rattle.std.proofs.Common.{length-set}
@@ -11,7 +11,7 @@ use Rattle.iol_desc.specs.EntryLists.{there, DropsHole, Rises, IsRising, IsListe
 use Rattle.iol_desc.proofs.RisingNumbers.{rises-lower, rises-set, rises-push}
 use Rattle.iol_desc.proofs.LiveCounts.{length-without}
 
--- what is in the entry at a place, or nothing past the end
+-- the value at an index, or none past the end
 abbrev pub held_at : {A : Type 0} → List (ℕ × Option A) → (i : ℕ) → Option A
 held_at {A} es i = let none : Option A = None in (get_or es i (0, none)).1
 
@@ -46,7 +46,7 @@ without_absent {A} (e ∷ es) n none = elim (cases_eq e.0 n) [
       w ∙ ap (λ (es : List (ℕ × A)). e ∷ es) rest)
 ]
 
--- taking and exchanging at the place of a number
+-- The entry of a number is taken or exchanged.
 
 pub there-taken : {A : Type 0} (es : List (ℕ × Option A)) (from to n : ℕ) → Rises from es to
     → there (slice_set es (place_in es n) (n, None)) ≡ without (there es) n
@@ -96,7 +96,7 @@ place_there ((m, Some x) ∷ es) from to n r found = elim (cases_eq m n) [
       grind (arith, nat_tests, k, rest))
 ]
 
--- another value of a number
+-- The value of a number is set.
 
 changed-absent : {A : Type 0} (es : List (ℕ × A)) (from to n : ℕ) (y : A) → Rises from es to → n < from
     → changed es n y ≡ es
@@ -121,7 +121,7 @@ exchanged-changed {A} (e ∷ es) from to n y r = elim (cases_eq e.0 n) [
       first ∙ ap (λ (es : List (ℕ × A)). e ∷ es) rest ∙ sym head)
 ]
 
--- adding at the end, and closing the holes
+-- An entry is added at the end, and holes are removed.
 
 pub there-push : {A : Type 0} (es : List (ℕ × Option A)) (n : ℕ) (x : A)
     → there (es ++ (n, Some x) ∷ []) ≡ there es ++ (n, x) ∷ []
@@ -134,7 +134,7 @@ there-hole [] n = refl
 there-hole ((m, None) ∷ es) n = there-hole es n
 there-hole {A} ((m, Some y) ∷ es) n = ap (λ (es : List (ℕ × A)). (m, y) ∷ es) (there-hole es n)
 
--- the entries that are no holes
+-- the entries that are not holes
 abbrev pub held : {A : Type 0} → List (ℕ × Option A) → List (ℕ × Option A)
 held es = filter (λ e. is_some e.1) es
 
@@ -169,7 +169,7 @@ rises-at {A} es to n h r found =
     let none : Option A = None in
     rises-set es 0 to (place_in es n) (0, none) (n, h) r (number_at es n (0, none) (place_there es 0 to n r found))
 
--- what a list with holes is after each of these
+-- A list with holes after each of these changes.
 
 pub listed-taken : {A : Type 0} (holes next n : ℕ) (es : List (ℕ × Option A)) → IsListed holes next es
     → lookup (there es) n ≢ None → IsListed (holes + 1) next (slice_set es (place_in es n) (n, None))
@@ -223,7 +223,7 @@ length-there [] = omega arith
 length-there ((m, None) ∷ es) = omega (arith, length-there es)
 length-there ((m, Some x) ∷ es) = omega (arith, length-there es)
 
--- the last was a hole, and is dropped
+-- the last entry was a hole, and was removed
 pub listed_without_hole : {A : Type 0} (holes next : ℕ) (old new : List (ℕ × Option A)) → IsListed holes next old
     → DropsHole true old new → (1 ≤ holes) × IsListed (holes - 1) next new × (there new ≡ there old)
 listed_without_hole {A} holes next old new listed drops =
@@ -258,7 +258,7 @@ lookup_entry {A} holes next n i es e listed found at is =
     (any-default es (place_in es n) (0, none) e (place_there es 0 next n listed.rises found)
     ∙ ap (λ (k : ℕ). get_or es k e) (sym at) ∙ sym is)
 
--- the numbers of what is there rise, too
+-- The numbers of the entries that are not holes rise, too.
 
 rises-there : {A : Type 0} (es : List (ℕ × Option A)) (from to : ℕ) → Rises from es to → Rises from (there es) to
 rises-there [] from to r = r
@@ -270,7 +270,7 @@ pub there_rises : {A : Type 0} (holes next : ℕ) (es : List (ℕ × Option A)) 
     → Rises 0 (there es) next
 there_rises holes next es listed = rises-there es 0 next listed.rises
 
--- the entry of a number, lent
+-- the entry of a number, after a borrow of its value
 pub lent_entry : {A : Type 0} (holes next n i : ℕ) (es : List (ℕ × Option A)) (e : ℕ × Option A) (w : A)
     → IsListed holes next es → lookup (there es) n ≢ None → i ≡ place_in es n → e ≡ get_or es i e
     → IsListed holes next (slice_set es i (e.0, Some w))
@@ -284,7 +284,7 @@ lent_entry {A} holes next n i es e w listed found at is =
           ∙ exchanged-changed (there es) 0 next n w (rises-there es 0 next listed.rises),
     )
 
--- the same, of a list whose numbers rise
+-- Likewise for a list whose numbers rise.
 
 pub lookup_held : {A : Type 0} (es : List (ℕ × Option A)) (n : ℕ) → IsRising es
     → lookup (there es) n ≡ held_at es (place_in es n)

@@ -63,7 +63,7 @@ count-few : {A : Type 0} (rows : List (Row A)) → AllByRecursion (λ (r : Row A
 count-few [] short = omega arith
 count-few (x ∷ rows) short = omega (arith, live-cons x rows, count-few rows short.1, short.0)
 
--- the row old is written over with one of some other number of aggregates
+-- the row `old` is replaced by one with another number of aggregates
 pub counted-set : {A : Type 0} (rows : List (Row A)) (n : ℕ) (r old : Row A) (live after : ℕ) → IsCounted live rows
     → n < length rows → old ≡ get_or rows n old → length r.domain.aggs < 2 ^ 64
     → after + length old.domain.aggs ≡ live + length r.domain.aggs → IsCounted after (slice_set rows n r)
@@ -75,7 +75,7 @@ counted-set {A} rows n r old live after counted lt at short is =
       short = short-set rows n r counted.short short;
     }
 
--- or with one of the same aggregates
+-- or by one with the same number of aggregates
 pub counted_kept : {A : Type 0} (rows : List (Row A)) (n : ℕ) (r old : Row A) (live : ℕ) → IsCounted live rows
     → n < length rows → old ≡ get_or rows n old → length r.domain.aggs ≡ length old.domain.aggs
     → IsCounted live (slice_set rows n r)
@@ -91,7 +91,7 @@ live-get [] n d lt = absurd (omega arith)
 live-get (x ∷ rows) zero d lt = omega (arith, live-cons x rows)
 live-get (x ∷ rows) (suc n) d lt = omega (arith, live-cons x rows, live-get rows n d (omega arith))
 
--- or with one of fewer
+-- or by one with fewer
 pub counted_fewer : {A : Type 0} (rows : List (Row A)) (n : ℕ) (r old : Row A) (live gone : ℕ) → IsCounted live rows
     → n < length rows → old ≡ get_or rows n old → length r.domain.aggs + gone ≡ length old.domain.aggs
     → (gone ≤ live) × IsCounted (live - gone) (slice_set rows n r)

@@ -1,4 +1,4 @@
--- Lists under rising numbers, and what is found in them.
+-- Lists under rising numbers, and searches in them.
 use Rattle.std.proofs.Common.{◌≡◌, ◌≢◌, ℕ, zero, suc, ◌+◌, ◌<◌, ◌≤◌, ◌==◌, List, [], ◌∷◌, ◌++◌, length, get_or, Result}
 use Rattle.std.proofs.Common.{Ok, Err, inl, inr, arith, sym, ap, refl}
 use Rattle.std.specs.Prelude.{slice_set}
@@ -43,7 +43,7 @@ pub rises-push : {X : Type 0} (es : List (ℕ × X)) (from to : ℕ) (x : X) →
 rises-push [] from to x r = (r, omega arith)
 rises-push (e ∷ es) from to x r = (r.0, rises-push es (e.0 + 1) to x r.1)
 
--- what a binary search finds
+-- The result of a binary search.
 
 numbers-rise : {X : Type 0} (es : List (ℕ × X)) (to n : ℕ) (d : ℕ × X) → Rises 0 es to
     → IsNonDecreasingBy (λ (e : ℕ × X). ordering_index (nat_cmp e.0 n)) es

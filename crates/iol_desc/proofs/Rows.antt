@@ -18,7 +18,7 @@ pub length-domains : {A : Type 0} (rows : List (Row A)) → length (domains_of r
 length-domains [] = refl
 length-domains (r ∷ rows) = ap suc (length-domains rows)
 
--- a row is written over with one of the same domain
+-- a row is replaced by one with the same domain
 pub domains-kept : {A : Type 0} (rows : List (Row A)) (n : ℕ) (r : Row A)
     → r.domain ≡ (get_or rows n (no_row {A = A})).domain → domains_of (slice_set rows n r) ≡ domains_of rows
 domains-kept [] n r same = refl

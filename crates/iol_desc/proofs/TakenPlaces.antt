@@ -47,7 +47,7 @@ placed_at xs n m k x same lt is =
     let low : lowest (slice_set xs n None) ≤ n = lowest_freed xs n lt in
     rw (is, same) (grind (arith, nat_tests, common_steps, low), grind (arith, nat_tests, common_steps, low))
 
--- from a place below which none is free
+-- The lowest free place, searched from a place that is not above it.
 
 pub lowest_from : {A : Type 0} (xs : List (Option A)) (n : ℕ) → n ≤ lowest xs → n + lowest (drop n xs) ≡ lowest xs
 lowest_from xs zero le = omega arith
@@ -91,7 +91,7 @@ within_place [] n there = absurd (there refl)
 within_place (x ∷ xs) zero there = omega arith
 within_place (x ∷ xs) (suc n) there = omega (arith, within_place xs n there)
 
--- another value in a place that is taken
+-- A taken place gets another value.
 
 pub taken-replaced : {A : Type 0} (xs : List (Option A)) (n : ℕ) (x : A) → in_place xs n ≢ None
     → taken (slice_set xs n (Some x)) ≡ taken xs

@@ -35,7 +35,7 @@ abbrev pub DropsHole : {A : Type 0} → (is_hole : Bool) → (old new : List (�
 DropsHole true old new = (n : ℕ) × (old ≡ new ++ (n, None) ∷ [])
 DropsHole false old new = new ≡ old
 
--- The entry of a number has another value.
+-- The value of a number is replaced.
 pub record Replaces {A : Type 0} (old new : Vec (ℕ × Option A)) (n : ℕ) (other : Option A) (x : A) : Type 0 where
   pub given : Some x ≡ lookup (there old.items) n
   pub items : new.items ≡ slice_set old.items (place_in old.items n) (n, other)
@@ -65,7 +65,7 @@ pub record TakesEntry {A : Type 0} (old new : Listed A) (n : ℕ) (x : A) : Type
   pub next : new.next ≡ old.next
   pub room : old.room ≤ new.room
 
--- Another value is under number n.
+-- The value of number n was exchanged for another.
 pub record SwapsEntry {A : Type 0} (old new : Listed A) (n : ℕ) (other x : A) : Type 0 where
   pub given : Some x ≡ lookup old.entries n
   pub entries : new.entries ≡ exchanged old.entries n other

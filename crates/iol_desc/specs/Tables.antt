@@ -127,7 +127,8 @@ pub record IsCounted {A : Type 0} (live : ℕ) (rows : List (Row A)) : Type 0 wh
   pub count : live ≡ live_aggs_in (domains_of rows)
   pub short : AllByRecursion (λ r. length r.domain.aggs < 2 ^ 64) rows
 
--- whether so many new ones, with so many given up, are too many for all domains or for the numbers of this one
+-- whether `made` new aggregates, less `given` consumed ones, exceed the limit of all domains, or the numbers of this
+-- one
 abbrev pub too_many_in : {A : Type 0} → List (Domain A) → (d made given : ℕ) → Bool
 too_many_in ds d made given =
     nat_lt (MAX_AGGREGATES + given) (live_aggs_in ds + made)
