@@ -17,11 +17,11 @@ use Rattle.iol_evict.proofs.Places.{all_from}
 use Rattle.iol_evict.proofs.Times.{each-same, same-sym}
 use Rattle.iol_evict.proofs.Indexes.{entries_of, read}
 
--- whether one is in use, if it lies below a rank
+-- if the entry is below the rank, it is in use
 abbrev UsedBelow : (used : ℕ → ℕ → Bool) → Rank → Entry → Type 0
 UsedBelow used rank e = RankLt (rank_by Height e) rank → used e.file e.at ≡ true
 
--- no entry lies below the least rank
+-- no entry is below the least rank
 least-below : (rank : Rank) → RankLt rank least_rank → ⊥
 least-below rank lt =
     omega (
@@ -39,7 +39,7 @@ below-least used es =
           (λ i within lt. absurd (least-below (rank_by Height (get_or es i no_entry)) lt));
     }
 
--- the same by the keys in the order of height
+-- likewise for the keys in the order of height
 pub keys-below : (used : ℕ → ℕ → Bool) (rank : Rank) (s : Slab Entry) (ks js : List ℕ) → IsIndexed s ks js
     → AreUsedBelow used rank (entries_of s ks) → KeysUsedBelow used rank s js
 keys-below used rank s ks js indexed below = record {
@@ -58,7 +58,7 @@ below-keys used rank s ks js indexed below = record {
       (each-same (λ k. UsedBelow used rank (entry_of s k)) js ks (same-sym ks js indexed.same) below.each i within));
 }
 
--- one more of the keys is in use
+-- if the next key is in use, all keys up to it are
 pub used-next : (used : ℕ → ℕ → Bool) (s : Slab Entry) (keys : List ℕ) (n : ℕ) (e : Entry)
     → ((i : ℕ) → i < n → is_used used s keys i ≡ true) → e ≡ entry_of s (get_or keys n 0) → used e.file e.at ≡ true
     → (i : ℕ) → i < n + 1 → is_used used s keys i ≡ true
@@ -69,7 +69,7 @@ used-next used s keys n e before is busy i upto = elim (cases_eq i n) [
   | inr other ↦ before i (omega (arith, other, upto))
 ]
 
--- those below the rank of a key stand before it
+-- the keys below the rank of the n-th key come before it, and are in use
 pub below-next : (used : ℕ → ℕ → Bool) (s : Slab Entry) (keys : List ℕ) (n : ℕ) (rank : Rank) → IsRising Height s keys
     → rank ≡ rank_at Height s keys n → ((i : ℕ) → i < n → is_used used s keys i ≡ true) → KeysUsedBelow used rank s keys
 below-next used s keys n rank rising is before = record {
@@ -83,7 +83,7 @@ below-next used s keys n rank rising is before = record {
   ];
 }
 
--- what holds of all holds without one
+-- a property of all entries holds for all without one
 all-without : (P : Entry → Type 0) (es : List Entry) (file at : ℕ) → All P es → All P (without es file at)
 all-without P [] file at all = all
 all-without P (x ∷ es) file at all = pick (is_at x file at) (all-without P es file at (All-tail P x es all)) where
@@ -95,7 +95,7 @@ pub below-without : (used : ℕ → ℕ → Bool) (rank : Rank) (es : List Entry
     → AreUsedBelow used rank (without es file at)
 below-without used rank es file at below = record { each = all-without (UsedBelow used rank) es file at below.each }
 
--- who uses them may be told in other words
+-- two predicates that agree on the entries
 pub below-same : (used uses : ℕ → ℕ → Bool) (rank : Rank) (es : List Entry)
     → All (λ e. uses e.file e.at ≡ used e.file e.at) es → AreUsedBelow used rank es → AreUsedBelow uses rank es
 below-same used uses rank es same below = record {

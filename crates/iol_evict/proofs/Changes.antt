@@ -32,7 +32,7 @@ index-places s ks js indexed = record { live = indexed.live; rising = indexed.pl
 pub index-heights : (s : Slab Entry) (ks js : List ℕ) → IsIndexed s ks js → IsIndex Height s js
 index-heights s ks js indexed = record { live = live-heights s ks js indexed; rising = indexed.heights }
 
--- the same values
+-- the slabs have the same values
 pub indexed-same : (s t : Slab Entry) (ks js : List ℕ) → SameValues s t → IsIndexed s ks js → IsIndexed t ks js
 indexed-same s t ks js same indexed =
     let at_places : SameAt s t ks = record { each = λ i within. same (get_or ks i 0) } in
@@ -46,7 +46,7 @@ indexed-same s t ks js same indexed =
           (indexed.sized i within);
     }
 
--- a key that was free takes a value
+-- a free key gets a value
 pub fresh-places : (s t : Slab Entry) (ks js : List ℕ) (key : ℕ) (slot : Option Entry) → IsIndexed s ks js
     → get s key ≡ None → Updates s t key slot → SameAt s t ks
 fresh-places s t ks js key slot indexed free updates =
@@ -66,7 +66,7 @@ contains-now t key e is = subst (λ (o : Option Entry). IsSome o) (sym is) (some
     some : (e : Entry) → IsSome (Some e)
     some e = refl
 
--- an entry comes in
+-- an entry is inserted
 pub indexed-insert : (s t : Slab Entry) (ks ks' js js' : List ℕ) (key : ℕ) (e : Entry) → IsIndexed s ks js
     → get s key ≡ None → Updates s t key (Some e) → 0 < e.size → entry_at (entries_of s ks) e.file e.at ≡ None
     → Adds Place t key ks ks' → Adds Height t key js js' → IsIndexed t ks' js'
@@ -121,7 +121,7 @@ indexed-insert s t ks ks' js js' key e indexed free updates sized absent placed 
         let never : true ≡ false = sym here ∙ away in
         cc
 
--- an entry goes
+-- an entry is removed
 pub indexed-remove : (s t : Slab Entry) (ks ks' js js' : List ℕ) (rank : Rank) (key taken : ℕ) → IsIndexed s ks js
     → Takes Place s rank key ks ks' → Takes Height s (rank_by Height (entry_of s key)) taken js js'
     → Updates s t key None → IsIndexed t ks' js'
@@ -165,7 +165,7 @@ indexed-remove s t ks ks' js js' rank key taken indexed from_places from_heights
           (sized i within);
     }
 
--- a key that is put back in
+-- a key is removed and inserted again
 same-again : (ks js js' js'' : List ℕ) (n m key : ℕ) → HaveSameKeys ks js → n < length js → get_or js n 0 ≡ key
     → js' ≡ remove js n → js'' ≡ insert js' m key → HaveSameKeys ks js''
 same-again ks js js' js'' n m key same within is removed inserted = record {
@@ -178,7 +178,7 @@ same-again ks js js' js'' n m key same within is removed inserted = record {
       omega (arith, all, out, one, back, less);
 }
 
--- an entry has another height
+-- the height of an entry is set
 pub indexed-height : (s t : Slab Entry) (ks js js' js'' : List ℕ) (rank : Rank) (key taken height : ℕ)
     → IsIndexed s ks js → Finds Place s ks rank key → Takes Height s (rank_by Height (entry_of s key)) taken js js'
     → Updates s t key (Some (record (entry_of s key) { height = height })) → Adds Height t key js' js''
@@ -251,13 +251,13 @@ indexed-height s t ks js js' js'' rank key taken height indexed found from_heigh
         (sym (ap (λ (x : Entry). x.file) same) ∙ f ∙ ap (λ (x : Entry). x.file) now)
         (sym (ap (λ (x : Entry). x.at) same) ∙ a ∙ ap (λ (x : Entry). x.at) now)
 
--- a table, part by part
+-- equal tables, part by part
 pub table-is : (es es' : List Entry) (n m : ℕ) → es ≡ es' → n ≡ m
     → ◌≡◌ {A = Table} (record { entries = es; room = n }) (record { entries = es'; room = m })
 table-is es es' n m same rooms = ap (λ (x : List Entry). record { entries = x; room = n }) same
     ∙ ap (λ (x : ℕ). record { entries = es'; room = x }) rooms
 
--- an entry that is given the height it has
+-- setting the height that an entry already has changes nothing
 some-kept : (o : Option Entry) (height : ℕ) → IsSome o → (unwrap_or o no_entry).height ≡ height
     → o ≡ Some (record (unwrap_or o no_entry) { height = height })
 some-kept None height is same = absurd (false≢true is)
@@ -272,7 +272,7 @@ same-height s ks js file at height key indexed found same =
     entries-with_height s s ks file at height key indexed.places found
     (record { changed = some-kept (get s key) height there same; others = λ other apart. refl })
 
--- a key of the first index has its rank in the second
+-- a key of the first index is in the second
 stands-height : (s : Slab Entry) (ks js : List ℕ) (n key : ℕ) → IsIndexed s ks js → n < length ks → get_or ks n 0 ≡ key
     → StandsIn js key
 stands-height s ks js n key indexed within is =
@@ -294,7 +294,7 @@ pub finds-taken : (s : Slab Entry) (ks ks' : List ℕ) (rank : Rank) (key : ℕ)
 finds-taken s ks ks' rank key takes =
     record { index = takes.index; within = takes.within; is = takes.is; has = takes.has }
 
--- what is left of the second index, once the key of a changed entry is out
+-- setting the slot of a key changes no entry of the second index, once the key is removed from it
 pub same-left : (s t : Slab Entry) (ks js js' : List ℕ) (rank : Rank) (key taken : ℕ) (slot : Option Entry)
     → IsIndexed s ks js → Finds Place s ks rank key → Takes Height s (rank_by Height (entry_of s key)) taken js js'
     → Updates s t key slot → SameAt s t js'

@@ -1,11 +1,11 @@
--- Where the keys of an edited list stood.
+-- The keys of an edited list, by their indexes before the edit.
 use Rattle.std.proofs.Common.{inl, inr, ◌≡◌, ℕ, ◌+◌, ◌-◌, ◌<◌, ◌≤◌, ◌⊎◌, List, length, get_or, arith, refl, sym, subst}
 use Rattle.std.specs.List.{insert, remove}
 use Rattle.std.proofs.lemmas.Bool.{cases_eq, cases_lt}
 use Rattle.std.proofs.lemmas.List.Edits.{length-insert, length-remove, get_or-insert_at, get_or-insert_below}
 use Rattle.std.proofs.lemmas.List.Edits.{get_or-insert_above, get_or-remove_below, get_or-remove_above}
 
--- the one put in at n, or one that was there
+-- after an insertion at n, the key at i was at index `from`
 pub record WasAt (keys : List ℕ) (n : ℕ) (i : ℕ) (key : ℕ) : Type 0 where
   pub from : ℕ
   pub within : from < length keys
@@ -51,7 +51,7 @@ insert-cases keys n key i within upto = elim (cases_lt i n) [
               inr (above, step);
         })
 
--- one that was not at n
+-- after the removal at n, the key at i was at index `from`
 pub record StoodAt (keys : List ℕ) (n : ℕ) (i : ℕ) (key : ℕ) : Type 0 where
   pub from : ℕ
   pub within : from < length keys
@@ -77,7 +77,7 @@ remove-cases keys n i within upto = elim (cases_lt i n) [
   }
 ]
 
--- what holds of each key
+-- a property of each key, after an insertion and after a removal
 pub each-insert : (P : ℕ → Type 0) (keys : List ℕ) (n key : ℕ) → ((i : ℕ) → i < length keys → P (get_or keys i 0))
     → P key → n ≤ length keys → (i : ℕ) → i < length (insert keys n key) → P (get_or (insert keys n key) i 0)
 each-insert P keys n key each here within i upto = elim (insert-cases keys n key i within upto) [

@@ -6,7 +6,7 @@ use Rattle.std.proofs.lemmas.Bool.Decides.{nat_tests}
 use Rattle.iol_evict.specs.declared.entry.Entry.{Entry}
 use Rattle.iol_evict.specs.Order.{no_entry, is_at, lies_before, entry_at, put_in, without}
 
--- the test of a place
+-- the test whether an entry is at a place
 pub is_at-file : (e : Entry) (file at : ℕ) → is_at e file at ≡ true → e.file ≡ file
 is_at-file e file at here = grind (arith, nat_tests, here)
 
@@ -23,7 +23,7 @@ is_at-false e file at apart = by (is_at e file at) refl
     by true here = absurd (apart (is_at-file e file at here) (is_at-at e file at here))
     by false away = away
 
--- the first entry of a list, where no earlier one lies there
+-- an insertion at n keeps the order, if the entries before n come before e, and the entry at n does not
 pub insert-put_in : (es : List Entry) (n : ℕ) (e : Entry) → n ≤ length es
     → ((i : ℕ) → i < n → lies_before (get_or es i no_entry) e.file e.at ≡ true)
     → (n < length es → lies_before (get_or es n no_entry) e.file e.at ≡ false) → insert es n e ≡ put_in es e
@@ -56,7 +56,7 @@ entry_at-is (x ∷ es) (suc n) file at within before here =
     let more = entry_at-is es n file at (omega (arith, within)) (λ i lt. before (suc i) (omega (arith, lt))) here in
     rw away more
 
--- where an entry lies
+-- an entry is at the place, under this index
 pub record LiesAt (es : List Entry) (file at : ℕ) : Type 0 where
   pub index : ℕ
   pub within : index < length es
@@ -72,7 +72,7 @@ entry_at-some (x ∷ es) file at some = by (is_at x file at) refl (entry_at-some
         let there = more (λ none. some (rw away none)) in
         record { index = suc there.index; within = omega (arith, there.within); here = there.here }
 
--- none lies where none is found
+-- if no entry is found at a place, none is there
 pub entry_at-none : (es : List Entry) (i file at : ℕ) → entry_at es file at ≡ None → i < length es
     → is_at (get_or es i no_entry) file at ≡ false
 entry_at-none [] i file at none within = absurd (omega (arith, within))

@@ -14,18 +14,18 @@ heights = refl
 no_room : three.room ≡ 0
 no_room = refl
 
--- an entry that is evicted leaves L at its height, any other leaves L as it was
+-- evicting an entry sets L to its height, and removing one leaves L unchanged
 low-evicted : (evicted_at three 1 8192).low ≡ 2048
 low-evicted = refl
 
 low-left : (left_at three 1 8192).low ≡ 0
 low-left = refl
 
--- a use counts from L
+-- a use sets the height relative to L
 height-hit : (entry_or (hit_at (evicted_at three 1 8192) 1 0).entries 1 0).height ≡ 6144
 height-hit = refl
 
--- past 2^62: L is taken from all heights, and the entry below it has 0
+-- L exceeds 2^62: it is subtracted from all heights, and the entry below it gets 0
 abbrev high : Ranking
 high = entered (entered (record { low = 2 ^ 62 - 1; entries = []; room = 3; kept = 0 }) 1 0 1 1) 2 0 1 2
 

@@ -1,4 +1,4 @@
--- The entry that goes first.
+-- The entry to evict next.
 use Rattle.std.proofs.Common.{inl, inr, ◌≡◌, ℕ, ◌<◌, ◌≤◌, Bool, true, false, List, [], ◌∷◌, length, get_or, arith, refl}
 use Rattle.std.proofs.Common.{sym, ap, subst, ◌∙◌, Option, Some, None, MatchOption, All, Contains}
 use Rattle.std.proofs.lemmas.Bool.{cases_eq, cases_lt}
@@ -37,7 +37,7 @@ key-rising s keys i j rising le within = elim (cases_eq i j) [
       (rising.each i j (omega (arith, le, other)) within)
 ]
 
--- it precedes each in its own list
+-- it precedes each entry in the order of height
 precedes-each : (used : ℕ → ℕ → Bool) (s : Slab Entry) (keys : List ℕ) (place : ℕ × ℕ)
     (first : GoesFirst used s keys place) → IsRising Height s keys → (j : ℕ) → j < length keys
     → Precedes used (entry_of s (get_or keys first.index 0)) (entry_of s (get_or keys j 0))
@@ -58,7 +58,7 @@ precedes-each used s keys place first rising j within = elim first.idle [
     by true busy idle after = inl (idle, busy)
     by false free idle after = inr (idle ∙ sym free, key-rising s keys first.index j rising after within)
 
--- and so among the entries by place
+-- so it also precedes each entry in the order of file and place
 pub victim-first : (used : ℕ → ℕ → Bool) (s : Slab Entry) (ks js : List ℕ) (place : ℕ × ℕ) → IsIndexed s ks js
     → GoesFirst used s js place → IsVictim used (entries_of s ks) place
 victim-first used s ks js place indexed first =
@@ -76,14 +76,14 @@ victim-first used s ks js place indexed first =
       lies = first.lies;
     }
 
--- no keys, no entries
+-- without keys there are no entries
 pub entries-none : (s : Slab Entry) (ks js : List ℕ) → IsIndexed s ks js → length js ≡ 0 → entries_of s ks ≡ []
 entries-none s [] js indexed none = refl
 entries-none s (k ∷ ks) js indexed none =
     let stood = stands-same js (k ∷ ks) 0 (same-sym (k ∷ ks) js indexed.same) (omega arith) in
     absurd (omega (arith, stood.within, none))
 
--- of each entry it may be asked, also in the order of height
+-- `is_in_use` may be called for each entry, also in the order of height
 pub ask-heights : (ask : ℕ → ℕ → Type 0) (s : Slab Entry) (ks js : List ℕ) → IsIndexed s ks js
     → All (λ e. ask e.file e.at) (entries_of s ks) → CanAskOf ask s js
 ask-heights ask s ks js indexed all = record {

@@ -1,4 +1,4 @@
--- All entries lowered, and sorted by height anew.
+-- All entries lowered, and sorted by height again.
 use Rattle.std.proofs.Common.{◌≡◌, ℕ, ◌+◌, ◌<◌, List, length, get_or, map, take, arith, refl, sym, ap, subst, ◌∙◌}
 use Rattle.std.proofs.lemmas.List.{get_or-take, length-take, length-map, get_or-map, ext_get_or}
 use Rattle.std.proofs.lemmas.List.Sums.{sum_by-insert, sum_by_more}
@@ -16,7 +16,7 @@ use Rattle.iol_evict.proofs.Indexes.{entries_of, read, one_index, places-apart}
 first_keys : (keys : List ℕ) (n i : ℕ) → i < length (take n keys) → (i < n) × (i < length keys)
 first_keys keys n i within = let e = length-take n keys in (omega (arith, within, e), omega (arith, within, e))
 
--- the keys put in so far
+-- the keys inserted so far are live
 pub live-first : (s : Slab Entry) (keys by_height : List ℕ) (n : ℕ) → AreLive s keys
     → HaveSameKeys (take n keys) by_height → AreLive s by_height
 live-first s keys by_height n live same = record {
@@ -60,7 +60,7 @@ same-next s keys old new n in_it same adds = record {
       ∙ sym (sum_by-insert (one_if k) old adds.index (get_or keys n 0)) ∙ ap (times k) (sym adds.keys);
 }
 
--- after all were lowered
+-- lowering all entries keeps the order of file and place
 pub rising-lowered : (s t : Slab Entry) (keys : List ℕ) (low : ℕ) → IsRising Place s keys
     → Lowers low keys (length keys) s t → IsRising Place t keys
 rising-lowered s t keys low rising lowers =

@@ -31,7 +31,7 @@ pub read : (s : Slab Entry) (keys : List ℕ) (i : ℕ) → i < length keys
     → get_or (entries_of s keys) i no_entry ≡ entry_of s (get_or keys i 0)
 read s keys i within = get_or-map (entry_of s) keys i 0 no_entry within
 
--- what a rank by place says of an entry
+-- an entry that is below a place by its rank comes before it
 lt-before : (e : Entry) (file at : ℕ) → RankLt (rank_by Place e) (rank_of_place file at) → lies_before e file at ≡ true
 lt-before e file at lt =
     let f : e.file ≤ file = lt.file refl in
@@ -63,7 +63,7 @@ rank-place e file at here = ap (λ (f : ℕ). rank_of_place f e.at) (is_at-file 
 pub rank-here : (e : Entry) (file at : ℕ) → rank_by Place e ≡ rank_of_place file at → is_at e file at ≡ true
 rank-here e file at is = is_at-true e file at (ap (λ (r : Rank). r.file) is) (ap (λ (r : Rank). r.at) is)
 
--- a place at which an entry lies is among the ranks
+-- the rank of a place with an entry is among those of the keys
 pub has-place : (s : Slab Entry) (keys : List ℕ) (file at : ℕ) → entry_at (entries_of s keys) file at ≢ None
     → HasRank Place s keys (rank_of_place file at)
 has-place s keys file at some =
@@ -78,7 +78,7 @@ has-place s keys file at some =
           (subst (λ (e : Entry). is_at e file at ≡ true) (read s keys there.index within) there.here);
     }
 
--- the rank of a place at which a table has an entry is among those of its keys
+-- likewise if the entries are those of a table
 pub place-there : (s : Slab Entry) (keys : List ℕ) (t : Table) (room file at : ℕ) (rank : Rank)
     → ◌≡◌ {A = Table} (record { entries = entries_of s keys; room = room }) t → rank ≡ rank_of_place file at
     → entry_at t.entries file at ≢ None → HasRank Place s keys rank
@@ -86,7 +86,7 @@ place-there s keys t room file at rank same is there =
     subst (λ (r : Rank). HasRank Place s keys r) (sym is)
     (has-place s keys file at (subst (λ (u : Table). entry_at u.entries file at ≢ None) (sym same) there))
 
--- earlier entries lie elsewhere
+-- earlier entries are at other places
 away-before : (s : Slab Entry) (keys : List ℕ) (file at n : ℕ) → IsRising Place s keys → n < length keys
     → rank_at Place s keys n ≡ rank_of_place file at → (i : ℕ) → i < n
     → is_at (get_or (entries_of s keys) i no_entry) file at ≡ false
@@ -101,7 +101,7 @@ here-at s keys file at n within has =
     subst (λ (e : Entry). is_at e file at ≡ true) (sym (read s keys n within))
     (rank-here (entry_of s (get_or keys n 0)) file at has)
 
--- the entry found by its place
+-- the entry found by its place is that of the key
 pub found-entry : (s : Slab Entry) (keys : List ℕ) (file at key : ℕ) → IsRising Place s keys
     → Finds Place s keys (rank_of_place file at) key → entry_or (entries_of s keys) file at ≡ entry_of s key
 found-entry s keys file at key rising found =
@@ -127,7 +127,7 @@ map-remove : (f : ℕ → Entry) (keys : List ℕ) (n : ℕ) → map f (remove k
 map-remove f keys n = map-append f (take n keys) (drop (suc n) keys)
     ∙ (let t = take-map f n keys in let d = drop-map f (suc n) keys in cc)
 
--- an entry comes in
+-- an entry is inserted
 pub entries-put_in : (s t : Slab Entry) (old new : List ℕ) (key : ℕ) (e : Entry) → SameAt s t old → entry_of t key ≡ e
     → Adds Place t key old new → entries_of t new ≡ put_in (entries_of s old) e
 entries-put_in s t old new key e same is adds =
@@ -150,7 +150,7 @@ entries-put_in s t old new key e same is adds =
     (subst (λ (x : Entry). RankLe (rank_by Place x) (rank_at Place t old adds.index)) is
     (adds.place.after adds.index (omega arith) within)))))
 
--- an entry goes
+-- an entry is removed
 pub entries-without : (s t : Slab Entry) (old new : List ℕ) (file at key : ℕ) → IsRising Place s old
     → Takes Place s (rank_of_place file at) key old new → SameAt s t new
     → entries_of t new ≡ without (entries_of s old) file at
@@ -161,7 +161,7 @@ entries-without s t old new file at key rising takes same =
     (away-before s old file at takes.index rising takes.within takes.has)
     (here-at s old file at takes.index takes.within takes.has)
 
--- each rank stands once
+-- each rank occurs once
 pub one_index : (by : By) (s : Slab Entry) (keys : List ℕ) (i n : ℕ) → IsRising by s keys → i < length keys
     → n < length keys → rank_at by s keys i ≡ rank_at by s keys n → i ≡ n
 one_index by s keys i n rising in_i in_n same = elim (cases_lt i n) [
@@ -182,7 +182,7 @@ one_index by s keys i n rising in_i in_n same = elim (cases_lt i n) [
         lt_not_le (rank_at by s keys n) (rank_at by s keys i) lt
         (subst (λ (r : Rank). RankLe r (rank_at by s keys n)) (sym same) (le_refl (rank_at by s keys n)))
 
--- the key taken with a rank is the one that has it
+-- the key taken by a key's rank is that key
 pub taken-key : (by : By) (s : Slab Entry) (old new : List ℕ) (key taken : ℕ) → IsRising by s old → StandsIn old key
     → Takes by s (rank_by by (entry_of s key)) taken old new → taken ≡ key
 taken-key by s old new key taken rising there takes =
@@ -191,7 +191,7 @@ taken-key by s old new key taken rising there takes =
     ∙ ap (λ (k : ℕ). rank_by by (entry_of s k)) (sym there.is)) in
     sym takes.is ∙ ap (λ (k : ℕ). get_or old k 0) one ∙ there.is
 
--- and it is gone
+-- the key taken is no longer in the list
 pub taken-gone : (by : By) (s : Slab Entry) (old new : List ℕ) (rank : Rank) (key : ℕ) → IsRising by s old
     → Takes by s rank key old new → (i : ℕ) → i < length new → get_or new i 0 ≢ key
 taken-gone by s old new rank key rising takes i within is =
@@ -204,13 +204,13 @@ taken-gone by s old new rank key rising takes i within is =
     (ap (λ (k : ℕ). rank_by by (entry_of s k)) same) in
     absurd (elim stood.side [ inl c ↦ omega (arith, one, c.0, c.1) | inr c ↦ omega (arith, one, c.0, c.1) ])
 
--- a key of one index has its rank in the other
+-- the rank of a key in a list is among the list's ranks
 pub has-rank : (by : By) (s : Slab Entry) (keys : List ℕ) (key : ℕ) → StandsIn keys key
     → HasRank by s keys (rank_by by (entry_of s key))
 has-rank by s keys key there =
     record { index = there.index; within = there.within; has = ap (λ (k : ℕ). rank_by by (entry_of s k)) there.is }
 
--- entries at two keys lie in two places
+-- the entries of two keys are at two places
 pub places-apart : (s : Slab Entry) (keys : List ℕ) (a b : ℕ) → IsRising Place s keys → StandsIn keys a
     → StandsIn keys b → a ≢ b → (entry_of s a).file ≡ (entry_of s b).file → (entry_of s a).at ≡ (entry_of s b).at → ⊥
 places-apart s keys a b rising in_a in_b other f t =
@@ -221,7 +221,7 @@ places-apart s keys a b rising in_a in_b other f t =
     let one = one_index Place s keys in_a.index in_b.index rising in_a.within in_b.within (ra ∙ mid ∙ sym rb) in
     other (sym in_a.is ∙ ap (λ (k : ℕ). get_or keys k 0) one ∙ in_b.is)
 
--- an entry has another height
+-- the height of an entry is set
 pub entries-with_height : (s t : Slab Entry) (keys : List ℕ) (file at height key : ℕ) → IsRising Place s keys
     → Finds Place s keys (rank_of_place file at) key
     → Updates s t key (Some (record (entry_of s key) { height = height }))

@@ -1,4 +1,4 @@
--- Lists that keep their order, and what is live.
+-- Lists that stay in order, and keys that stay live.
 use Rattle.std.proofs.Common.{inl, inr, ◌≡◌, ◌≢◌, ℕ, ◌+◌, ◌<◌, ◌≤◌, ◌⊎◌, List, length, get_or, arith, sym, ap, subst}
 use Rattle.std.proofs.Common.{◌∙◌, Option, None, IsSome, unwrap_or}
 use Rattle.std.specs.List.{insert, remove}
@@ -21,7 +21,7 @@ pub same-entry : (s t : Slab Entry) (keys : List ℕ) (i : ℕ) → SameAt s t k
     → entry_of t (get_or keys i 0) ≡ entry_of s (get_or keys i 0)
 same-entry s t keys i same within = ap (λ (o : Option Entry). unwrap_or o no_entry) (same.each i within)
 
--- another key changed
+-- only another key changed
 pub same-others : (s t : Slab Entry) (keys : List ℕ) (key : ℕ) (slot : Option Entry) → Updates s t key slot
     → ((i : ℕ) → i < length keys → get_or keys i 0 ≢ key) → SameAt s t keys
 same-others s t keys key slot updates other =
@@ -31,7 +31,7 @@ pub live-same : (s t : Slab Entry) (keys : List ℕ) → SameAt s t keys → Are
 live-same s t keys same live =
     record { each = λ i within. subst (λ (o : Option Entry). IsSome o) (sym (same.each i within)) (live.each i within) }
 
--- a live key is not one that was free
+-- a live key is not a free key
 pub live-other : (s : Slab Entry) (keys : List ℕ) (key : ℕ) → AreLive s keys → get s key ≡ None → (i : ℕ)
     → i < length keys → get_or keys i 0 ≢ key
 live-other s keys key live free i within is =
@@ -60,7 +60,7 @@ index-same by s t keys same index =
 rank_of_key : By → Slab Entry → ℕ → Rank
 rank_of_key by s key = rank_by by (entry_of s key)
 
--- a key in its place
+-- a key is inserted in its place
 pub rising-insert : (by : By) (s : Slab Entry) (keys : List ℕ) (key n : ℕ) → IsRising by s keys
     → IsPlace by s keys (rank_by by (entry_of s key)) n → IsApart s keys key → IsRising by s (insert keys n key)
 unfolding rank_of_key
@@ -70,7 +70,7 @@ rising-insert by s keys key n rising place apart = record {
       both i j lt (insert-cases keys n key i place.within short) (insert-cases keys n key j place.within within);
 }
   where
-    -- from the equations on the keys
+    -- the order of two ranks, by equal keys
     swap : (x y x' y' : ℕ) → x ≡ x' → y ≡ y' → RankLt (rank_of_key by s x') (rank_of_key by s y')
         → RankLt (rank_of_key by s x) (rank_of_key by s y)
     swap x y x' y' ex ey lt =
@@ -121,7 +121,7 @@ rising-insert by s keys key n rising place apart = record {
         ])
         b.within)
 
--- without one key
+-- one key is removed
 pub rising-remove : (by : By) (s : Slab Entry) (keys : List ℕ) (n : ℕ) → IsRising by s keys → n < length keys
     → IsRising by s (remove keys n)
 unfolding rank_of_key

@@ -20,7 +20,7 @@ le_lt a b c ab bc = record {
 pub lt_le : (a b : Rank) → RankLt a b → RankLe a b
 lt_le a b ab = record { height = ab.height; file = ab.file; at = λ h f. omega (arith, ab.at h f) }
 
--- no rank is below itself, nor is one below another that is not above it
+-- if a is below b, b is not at most a
 pub lt_not_le : (a b : Rank) → RankLt a b → RankLe b a → ⊥
 lt_not_le a b ab ba =
     let h : a.height ≡ b.height = omega (arith, ab.height, ba.height) in
@@ -32,7 +32,7 @@ lt_not_le a b ab ba =
 pub le_refl : (a : Rank) → RankLe a a
 le_refl a = record { height = omega arith; file = λ h. omega arith; at = λ h f. omega arith }
 
--- different places
+-- of two ranks with different places, one that is at most the other is below it
 pub le_other : (a b : Rank) → RankLe a b → (a.file ≡ b.file → a.at ≡ b.at → ⊥) → RankLt a b
 le_other a b ab apart = record {
   height = ab.height;

@@ -8,7 +8,7 @@ use Rattle.std.proofs.lemmas.Grind.{common_steps}
 use Rattle.std.proofs.lemmas.List.Sums.{sum_by-insert, sum_by-remove}
 use Rattle.iol_evict.specs.Indexes.{one_if, times, HaveSameKeys}
 
--- where a key stands
+-- an index of the key
 pub record StandsIn (keys : List ℕ) (key : ℕ) : Type 0 where
   pub index : ℕ
   pub within : index < length keys
@@ -38,7 +38,7 @@ stands-some (k ∷ keys) key some = elim (cases_eq k key) [
           grind (arith, common_steps, there.is);
     }
 
--- each key of one stands in the other
+-- each key of one list is in the other
 pub stands-same : (a b : List ℕ) (i : ℕ) → HaveSameKeys a b → i < length b → StandsIn a (get_or b i 0)
 stands-same a b i same within =
     stands-some a (get_or b i 0)

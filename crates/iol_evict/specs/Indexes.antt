@@ -30,7 +30,7 @@ pub record IsIndex (by : By) (s : Slab Entry) (keys : List ℕ) : Type 0 where
   pub live : AreLive s keys
   pub rising : IsRising by s keys
 
--- as many ranks lie before this one
+-- n ranks are before this one
 pub record IsPlace (by : By) (s : Slab Entry) (keys : List ℕ) (rank : Rank) (n : ℕ) : Type 0 where
   pub within : n ≤ length keys
   pub before : (i : ℕ) → i < n → RankLt (rank_at by s keys i) rank
@@ -50,7 +50,7 @@ pub record IsApart (s : Slab Entry) (keys : List ℕ) (key : ℕ) : Type 0 where
 abbrev pub one_if : (key k : ℕ) → ℕ
 one_if key k = if k == key then 1 else 0
 
--- how often a key stands in a list
+-- the number of times that a key is in a list
 abbrev pub times : (key : ℕ) → List ℕ → ℕ
 times key keys = sum_by (one_if key) keys
 
@@ -64,13 +64,13 @@ pub record Finds (by : By) (s : Slab Entry) (keys : List ℕ) (rank : Rank) (key
   pub is : slice_index keys index ≡ key
   pub has : rank_at by s keys index ≡ rank
 
--- a key came in among the keys, in the place of its entry's rank
+-- a key was inserted in the place of its entry's rank
 pub record Adds (by : By) (s : Slab Entry) (key : ℕ) (old new : List ℕ) : Type 0 where
   pub index : ℕ
   pub place : IsPlace by s old (rank_by by (entry_of s key)) index
   pub keys : new ≡ insert old index key
 
--- the key of an entry of this rank went out
+-- the key of an entry of this rank was removed
 pub record Takes (by : By) (s : Slab Entry) (rank : Rank) (key : ℕ) (old new : List ℕ) : Type 0 where
   pub index : ℕ
   pub within : index < length old
@@ -78,8 +78,8 @@ pub record Takes (by : By) (s : Slab Entry) (rank : Rank) (key : ℕ) (old new :
   pub has : rank_at by s old index ≡ rank
   pub keys : new ≡ remove old index
 
--- The entries of an order lie in a slab. Its keys stand in two lists, one in the order of file and place, the other
--- in that of height, file and place.
+-- The entries of an order are in a slab. Its keys are in two lists, one in the order of file and place, the other in
+-- that of height, file and place.
 pub record IsIndexed (s : Slab Entry) (by_place by_height : List ℕ) : Type 0 where
   pub live : AreLive s by_place
   pub places : IsRising Place s by_place
@@ -97,13 +97,13 @@ pub record Lowers (low : ℕ) (keys : List ℕ) (n : ℕ) (old new : Slab Entry)
   pub len : slab_len new ≡ slab_len old
   pub capacity : new.capacity ≡ old.capacity
 
--- The entry at a key is this one then, and the room stays.
+-- The entry at a key was set, and the room is unchanged.
 pub record SetsEntry (old new : Slab Entry) (key : ℕ) (entry : Entry) : Type 0 where
   pub updates : Updates old new key (Some entry)
   pub len : slab_len new ≡ slab_len old
   pub capacity : new.capacity ≡ old.capacity
 
--- The entry at a key has this height then. Its other fields and the room are unchanged.
+-- The height of the entry at a key was set. Its other fields and the room are unchanged.
 abbrev pub SetsHeight : (old new : Slab Entry) → (key height : ℕ) → Type 0
 SetsHeight old new key height = SetsEntry old new key (record (entry_of old key) { height = height })
 
@@ -112,31 +112,31 @@ SetsHeight old new key height = SetsEntry old new key (record (entry_of old key)
 abbrev pub Keys : Type 0
 Keys = VecDeque ℕ Global
 
--- a live key may come in, in room that is there
+-- a live key may be inserted, in reserved room
 pub record MayAdd (s : Slab Entry) (key : ℕ) (keys : Keys) : Type 0 where
   pub there : ContainsKey s key
   pub room : deque_len keys < deque_capacity keys
 
--- a key came in, in its place
+-- a key was inserted, in its place
 pub record AddsKey (by : By) (s : Slab Entry) (key : ℕ) (old new : Keys) : Type 0 where
   pub adds : Adds by s key old.items new.items
   pub len : deque_len new ≡ deque_len old + 1
   pub capacity : deque_capacity old ≤ deque_capacity new
 
--- the key whose entry has a rank went out
+-- the key whose entry has a rank was removed
 pub record TakesKey (by : By) (s : Slab Entry) (rank : Rank) (key : ℕ) (old new : Keys)
     : Type 0 where
   pub takes : Takes by s rank key old.items new.items
   pub len : deque_len new + 1 ≡ deque_len old
   pub capacity : deque_capacity new ≡ deque_capacity old
 
--- no keys, and room for so many
+-- no keys, and room for `count`
 pub record HasRoomAlone (count : ℕ) (keys : Keys) : Type 0 where
   pub empty : keys.items ≡ []
   pub none : deque_len keys ≡ 0
   pub room : count ≤ deque_capacity keys
 
--- all of these keys came in, and are in the order of height
+-- all of these keys were inserted, in the order of height
 pub record SortsAll (s : Slab Entry) (keys : List ℕ) (old new : Keys) : Type 0 where
   pub rising : IsRising Height s new.items
   pub same : HaveSameKeys keys new.items

@@ -1,5 +1,5 @@
--- The entries of an order and what becomes of them, by GreedyDual-Size (Cao and Irani, "Cost-Aware
--- WWW Proxy Caching Algorithms", 1997).
+-- The entries of an order and their changes, by GreedyDual-Size (Cao and Irani, "Cost-Aware WWW Proxy Caching
+-- Algorithms", 1997).
 use Rattle.std.specs.Prelude.{◌≡◌, ℕ, ◌+◌, ◌-◌, ◌*◌, ◌/◌, ◌^◌, ◌<◌, ◌≤◌, ◌==◌, ◌&&◌, ◌||◌, nat_lt, if◌then◌else◌, Bool}
 use Rattle.std.specs.Prelude.{List, [], ◌∷◌, map, find, Option, None, unwrap_or, Result, IsOk, OnOk, OnErr}
 use Rattle.iol_evict.specs.declared.entry.Entry.{Entry}
@@ -39,7 +39,7 @@ no_entry = record { file = 0; at = 0; size = 0; cost = 0; height = 0 }
 abbrev pub entry_or : List Entry → (file at : ℕ) → Entry
 entry_or es file at = unwrap_or (entry_at es file at) no_entry
 
--- with one more, in the order of file and place
+-- the entries with one more, in the order of file and place
 abbrev pub put_in : List Entry → Entry → List Entry
 put_in [] e = e ∷ []
 put_in (x ∷ xs) e = if lies_before x e.file e.at then x ∷ put_in xs e else e ∷ x ∷ xs
@@ -48,14 +48,14 @@ abbrev pub without : List Entry → (file at : ℕ) → List Entry
 without [] file at = []
 without (x ∷ xs) file at = if is_at x file at then xs else x ∷ without xs file at
 
--- with this height at a place
+-- the entry with this height, if it is at the place
 abbrev pub set_at : (file at height : ℕ) → Entry → Entry
 set_at file at height e = if is_at e file at then record e { height = height } else e
 
 abbrev pub with_height : List Entry → (file at height : ℕ) → List Entry
 with_height es file at height = map (set_at file at height) es
 
--- a table with an entry more, in room that was there
+-- a table with one more entry, in reserved room
 abbrev pub with_entry : Table → Entry → Table
 with_entry t e = record { entries = put_in t.entries e; room = t.room - 1 }
 
@@ -101,11 +101,11 @@ evicted_at r file at = lowered (record (left_at r file at) { low = (entry_or r.e
 abbrev pub with_one_kept : Ranking → Ranking
 with_one_kept r = record r { room = r.room - 1; kept = r.kept + 1 }
 
--- a place that was kept is room again
+-- a kept place is room again
 abbrev pub with_one_given_back : Ranking → Ranking
 with_one_given_back r = record r { room = r.room + 1; kept = r.kept - 1 }
 
--- an entry may come in, in room that is there: it has bytes, and none lies in its place
+-- an entry may be inserted, in reserved room: it has bytes, and there is no entry at its place
 pub record MayPut (t : Table) (e : Entry) : Type 0 where
   pub room : 0 < t.room
   pub absent : entry_at t.entries e.file e.at ≡ None
