@@ -1,4 +1,4 @@
--- A range has its gaps in one way.
+-- A range has exactly one list of gaps.
 use Rattle.std.proofs.Common.{inl, inr, ◌≡◌, ℕ, zero, suc, ◌<◌, ◌≤◌, Bool, true, false, cond, List, [], ◌∷◌, length}
 use Rattle.std.proofs.Common.{get_or, Option, Some, None, IsSome, refl, sym, ap, ◌∙◌, arith, subst}
 use Rattle.std.specs.List.{All}
@@ -65,7 +65,7 @@ later_gaps es low to g gs a = record {
   ];
 }
 
--- nothing lies over the first byte of a gap
+-- no extent covers the first byte of a gap
 first_none : (es : List Extent) (low to : ℕ) (g : Span) (gs : List Span) → AreGaps es low to (g ∷ gs)
     → cover es g.from ≡ None
 first_none es low to g gs a = (All-head (IsGapSpan es) g gs a.empty).each g.from (omega arith) a.order.1

@@ -1,4 +1,4 @@
--- Extents that become clean where they stand.
+-- Extents that become clean in place.
 use Rattle.std.proofs.Common.{◌≡◌, ℕ, zero, suc, ◌+◌, ◌<◌, ◌≤◌, ◌==◌, Bool, true, false, cond, List, [], ◌∷◌, length}
 use Rattle.std.proofs.Common.{get_or, set, drop, insert, remove, Some, None, refl, sym, ap, ◌∙◌, arith, subst}
 use Rattle.std.proofs.lemmas.Bool.Decides.{nat_tests}
@@ -14,7 +14,7 @@ eq_yes m n h = grind (arith, nat_tests)
 eq_no : (m n : ℕ) → m < n → (m == n) ≡ false
 eq_no m n h = grind (arith, nat_tests)
 
--- None that begins before a place is dirty.
+-- No extent that begins before a place is dirty.
 
 pub clean_lower : (p q : ℕ) (es : List Extent) → q ≤ p → AreCleanBefore p es → AreCleanBefore q es
 clean_lower p q [] le h = tt
@@ -32,7 +32,7 @@ clean_insert p es k e h here = each_insert (λ (x : Extent). x.at < p → x.dirt
 pub clean_remove : (p : ℕ) (es : List Extent) (k : ℕ) → AreCleanBefore p es → AreCleanBefore p (remove es k)
 clean_remove p es k h = each_remove (λ (x : Extent). x.at < p → x.dirty ≡ false) es k h
 
--- How many are dirty.
+-- The number of dirty extents.
 
 pub dirty_insert : (es : List Extent) (k : ℕ) (e : Extent) → dirty_count (insert es k e) ≡ one_dirty e + dirty_count es
 dirty_insert [] zero e = sum_by-cons one_dirty e []
@@ -67,7 +67,7 @@ none_dirty (x ∷ xs) h = pick x.dirty refl (none_dirty xs (omega (arith, h, sum
     pick true is ih = absurd (omega (arith, h, sum_by-cons one_dirty x xs, one_yes x is))
     pick false is ih = ih
 
--- The search for the first dirty one goes on at a place.
+-- The search for the first dirty extent continues at a place.
 
 pub search_on : (low : ℕ) (es : List Extent) (k p : ℕ) (d : Extent) → IsApart low es → AreCleanBefore p es
     → k ≤ length es → ((j : ℕ) → j < k → end_of (get_or es j d) ≤ p) → dirty_in (drop k es) ≡ dirty_in es
@@ -102,7 +102,7 @@ search_past [] (suc i) le = refl
 search_past (y ∷ ys) zero le = absurd (omega (arith, le))
 search_past (y ∷ ys) (suc i) le = search_past ys i (omega (arith, le))
 
--- The first dirty one is clean then.
+-- The first dirty extent becomes clean.
 
 pub first_begins : (low : ℕ) (es : List Extent) (e : Extent) → IsApart low es → dirty_in es ≡ Some e
     → (begins_at es e.at ≡ Some e) × (e.dirty ≡ true) × (low ≤ e.at)
@@ -175,7 +175,7 @@ cleaned_count low (x ∷ xs) e a h = pick x.dirty refl h (λ k. cleaned_count (e
         (eq_no x.at e.at (omega (arith, r.2, a.1))) in
         omega (arith, here, sum_by-cons one_dirty x (cleaned_at xs e.at), sum_by-cons one_dirty x xs, ih h)
 
--- where it is found
+-- the index of the first dirty extent
 pub first_found : (es : List Extent) (k at : ℕ) (e : Extent) → IsApart 0 es → k ≤ length es
     → ((j : ℕ) (d : Extent) → j < k → end_of (get_or es j d) ≤ at)
     → ((d : Extent) → k < length es → at < end_of (get_or es k d)) → dirty_in es ≡ Some e → e.at ≡ at
@@ -183,7 +183,7 @@ pub first_found : (es : List Extent) (k at : ℕ) (e : Extent) → IsApart 0 es 
 first_found es k at e a w b t h is =
     begins_is 0 es k at e a w b t (ap (begins_at es) (sym is) ∙ (first_begins 0 es e a h).0)
 
--- up to there all are
+-- no extent that begins there or before is dirty any more
 pub cleaned_before : (low : ℕ) (es : List Extent) (e : Extent) → IsApart low es → dirty_in es ≡ Some e
     → AreCleanBefore (e.at + 1) (cleaned_at es e.at)
 cleaned_before low [] e a h = cc

@@ -1,4 +1,4 @@
--- How many extents there are, and how many are dirty.
+-- The number of extents, and of dirty extents.
 use Rattle.std.proofs.Common.{ℕ, suc, zero, ◌+◌, ◌≤◌, Bool, true, false, cond, List, [], ◌∷◌, length, max, take, arith}
 use Rattle.std.proofs.lemmas.List.Sums.{sum_by-cons}
 use Rattle.iol_extent.specs.Extents.{Extent, IsApart, dirty_count, end_of, last_end, one_dirty}

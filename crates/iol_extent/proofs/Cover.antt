@@ -31,13 +31,13 @@ cover_yes e es i h k = ap (λ b. cond b (Some (cell_at e i)) (cover es i)) (over
 pub cover_no : (e : Extent) (es : List Extent) (i : ℕ) → (i < e.at) ⊎ (end_of e ≤ i) → cover (e ∷ es) i ≡ cover es i
 cover_no e es i h = ap (λ b. cond b (Some (cell_at e i)) (cover es i)) (over_no e i h)
 
--- nothing lies below low
+-- no extent covers a byte below `low`
 pub cover_low : (low : ℕ) (es : List Extent) (i : ℕ) → IsApart low es → i < low → cover es i ≡ None
 cover_low low [] i a h = refl
 cover_low low (e ∷ es) i a h = cover_no e es i (inl (omega (arith, a.0)))
     ∙ cover_low (end_of e) es i a.2 (omega (arith, a.0, a.1))
 
--- what lies over i is found at k, where those before end at i or before it
+-- the cover of byte i is in the extent at k, if the extents before k end at i or before it
 pub cover_found : (low : ℕ) (es : List Extent) (k i : ℕ) (d : Extent) → IsApart low es → k < length es
     → ((j : ℕ) → j < k → end_of (get_or es j d) ≤ i) → (get_or es k d).at ≤ i → i < end_of (get_or es k d)
     → cover es i ≡ Some (cell_at (get_or es k d) i)
@@ -46,7 +46,7 @@ cover_found low (e ∷ es) zero i d a h b f t = cover_yes e es i f t
 cover_found low (e ∷ es) (suc k) i d a h b f t = cover_no e es i (inr (b 0 (omega arith)))
     ∙ cover_found (end_of e) es k i d a.2 (omega arith) (λ j l. b (suc j) (omega arith)) f t
 
--- nothing lies over i, where the extents before k end at i or before it and that at k begins after it
+-- no extent covers byte i, if the extents before k end at i or before it, and that at k begins after it
 pub cover_missed : (low : ℕ) (es : List Extent) (k i : ℕ) (d : Extent) → IsApart low es → k ≤ length es
     → ((j : ℕ) → j < k → end_of (get_or es j d) ≤ i) → (k < length es → i < (get_or es k d).at) → cover es i ≡ None
 cover_missed low [] k i d a h b f = refl
@@ -55,7 +55,7 @@ cover_missed low (e ∷ es) zero i d a h b f = cover_no e es i (inl (f (omega ar
 cover_missed low (e ∷ es) (suc k) i d a h b f = cover_no e es i (inr (b 0 (omega arith)))
     ∙ cover_missed (end_of e) es k i d a.2 (omega arith) (λ j l. b (suc j) (omega arith)) (λ l. f (omega arith))
 
--- where nothing lay, the extent lies, wherever it is put
+-- two extents that do not overlap may be tested in either order
 put_test : (x y : Bool) (c d r : Option Cell) (s : Option Cell) → (y ≡ true → cond x c r ≡ None)
     → (x ≡ true → c ≡ None → ⊥) → s ≡ cond y d r → cond x c s ≡ cond y d (cond x c r)
 put_test true true c d r s f g h = absurd (g refl (f refl))
@@ -75,7 +75,7 @@ cover_insert (x ∷ xs) (suc k) e i h =
     none_after true c r f h = absurd (f h)
     none_after false c r f h = h
 
--- the order is kept
+-- an insertion keeps the order
 pub insert_apart : (low : ℕ) (es : List Extent) (k : ℕ) (e d : Extent) → IsApart low es → low ≤ e.at
     → 0 < byte_len e.parts → k ≤ length es → ((j : ℕ) → j < k → end_of (get_or es j d) ≤ e.at)
     → (k < length es → end_of e ≤ (get_or es k d).at) → IsApart low (insert es k e)
@@ -99,7 +99,7 @@ some_at low [] k d a h = absurd (omega arith)
 some_at low (e ∷ es) zero d a h = omega (arith, a.1)
 some_at low (e ∷ es) (suc k) d a h = some_at (end_of e) es k d a.2 (omega arith)
 
--- the first extent that ends after a gap begins begins after it
+-- the first extent that ends after the start of a gap begins at the end of the gap or later
 pub gap_after : (es : List Extent) (k from to : ℕ) (d : Extent) → IsApart 0 es → k < length es
     → ((j : ℕ) → j < k → end_of (get_or es j d) ≤ from) → from < end_of (get_or es k d) → from < to → IsGap es from to
     → to ≤ (get_or es k d).at
@@ -121,7 +121,7 @@ gap_after es k from to d a h b f t g =
     some_none : {o : Option Cell} {c : Cell} → o ≡ Some c → o ≡ None → ⊥
     some_none p q = cc
 
--- what lies over a place, by the number of extents that end at it or before it
+-- the cover of a byte, by the number of extents that end at it or before it
 pub over_past : (es : List Extent) (k i : ℕ) → IsApart 0 es → k ≡ length es
     → ((j : ℕ) (d : Extent) → j < k → end_of (get_or es j d) ≤ i) → cover es i ≡ None
 over_past es k i a h b =
@@ -139,7 +139,7 @@ over_at es k i e a h b r f t =
     cover_found 0 es k i e a h (λ j m. b j e m) (omega (arith, ap (λ (x : Extent). x.at) r)) t
     ∙ ap (λ (x : Extent). Some (cell_at x i)) (sym r)
 
--- an extent is put into a gap
+-- an extent is inserted into a gap
 pub put_apart : (es : List Extent) (k : ℕ) (e : Extent) → IsApart 0 es → k ≤ length es
     → ((j : ℕ) (d : Extent) → j < k → end_of (get_or es j d) ≤ e.at)
     → ((d : Extent) → k < length es → e.at < end_of (get_or es k d)) → 0 < byte_len e.parts → IsGap es e.at (end_of e)
@@ -167,7 +167,7 @@ begins_low low (e ∷ es) at a h =
       other true f ih = absurd (omega (arith, f refl, a.0))
       other false f ih = ih
 
--- the extent that begins at a place stands where those that end at it or before it stop
+-- the extent that begins at a place is the first that ends after the place
 pub begins_is : (low : ℕ) (es : List Extent) (k at : ℕ) (e : Extent) → IsApart low es → k ≤ length es
     → ((j : ℕ) (d : Extent) → j < k → end_of (get_or es j d) ≤ at)
     → ((d : Extent) → k < length es → at < end_of (get_or es k d)) → begins_at es at ≡ Some e
@@ -187,7 +187,7 @@ begins_is low (x ∷ xs) (suc k) at e a h b t f =
     later in
     (omega (arith, ih.0), ih.1, ih.2)
 
--- without the extent at k
+-- the extent at k is removed
 pub remove_apart : (low : ℕ) (es : List Extent) (k : ℕ) → IsApart low es → k < length es → IsApart low (remove es k)
 remove_apart low [] k a h = absurd (omega arith)
 remove_apart low (e ∷ es) zero a h = lower low (end_of e) es (omega (arith, a.0)) a.2
@@ -276,7 +276,7 @@ gap_before es k at to e a h b r t =
 pub some_is : {o : Option Cell} {c : Cell} → o ≡ Some c → IsSome o
 some_is {o} {c} h = subst IsSome (sym h) refl
 
--- the ends rise
+-- the ends of extents rise
 pub ends_rise : (low : ℕ) (es : List Extent) (j k : ℕ) (d : Extent) → IsApart low es → j ≤ k → k < length es
     → end_of (get_or es j d) ≤ end_of (get_or es k d)
 ends_rise low [] j k d a le h = absurd (omega (arith, h))
@@ -287,7 +287,7 @@ ends_rise low (e ∷ es) (suc j) zero d a le h = absurd (omega (arith, le))
 ends_rise low (e ∷ es) (suc j) (suc k) d a le h =
     ends_rise (end_of e) es j k d a.2 (omega (arith, le)) (omega (arith, h))
 
--- The extent over a byte, found as what lies over it is.
+-- The extent over a byte, found like its cover.
 
 pub extent_yes : (e : Extent) (es : List Extent) (i : ℕ) → e.at ≤ i → i < end_of e → extent_over (e ∷ es) i ≡ Some e
 extent_yes e es i h k = ap (λ b. cond b (Some e) (extent_over es i)) (over_yes e i h k)
@@ -296,7 +296,7 @@ pub extent_no : (e : Extent) (es : List Extent) (i : ℕ) → (i < e.at) ⊎ (en
     → extent_over (e ∷ es) i ≡ extent_over es i
 extent_no e es i h = ap (λ b. cond b (Some e) (extent_over es i)) (over_no e i h)
 
--- what lies over a byte is of the extent over it
+-- the cover of a byte is in the extent over it
 pub cover-extent : (es : List Extent) (i : ℕ) (e : Extent) → extent_over es i ≡ Some e → cover es i ≡ Some (cell_at e i)
 cover-extent [] i e h = cc
 cover-extent (x ∷ xs) i e h = here (is_over x i) h (cover-extent xs i e) where
@@ -349,7 +349,7 @@ extent_begins low (x ∷ xs) at e a h = here (x.at == at) (eq_from x.at at) h (e
     | inr l ↦ (extent_no x xs at (inr l) ∙ (ih h).0, (ih h).1)
   ]
 
--- the last extent ends last
+-- the last extent has the greatest end
 pub last_end-last : (low : ℕ) (es : List Extent) (d : Extent) → IsApart low es → 0 < length es
     → last_end es ≡ end_of (get_or es (length es - 1) d)
 last_end-last low [] d a h = absurd (omega (arith, h))
@@ -362,7 +362,7 @@ last_end-last low (x ∷ y ∷ ys) d a h =
     let later : end_of x ≤ last_end (y ∷ ys) = omega (arith, a.2.0, a.2.1) in
     omega (arith, ih, ap end_of is, later)
 
--- where a gap ends before the range does, an extent begins
+-- if a gap ends before the range does, an extent begins there
 pub gap_ends : (es : List Extent) (k from : ℕ) (d : Extent) → IsApart 0 es → k < length es
     → ((j : ℕ) → j < k → end_of (get_or es j d) ≤ from) → from < (get_or es k d).at
     → IsSome (cover es (get_or es k d).at)

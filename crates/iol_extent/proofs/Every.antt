@@ -1,4 +1,4 @@
--- What holds of each of a list, as one comes or goes.
+-- A property of all elements of a list, after an insertion or a removal.
 use Rattle.std.proofs.Common.{zero, suc, ℕ, List, [], ◌∷◌, insert, remove}
 use Rattle.std.specs.List.{AllByRecursion}
 

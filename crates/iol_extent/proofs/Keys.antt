@@ -1,4 +1,4 @@
--- Keys that come and go, and the extents that they have.
+-- Keys that are inserted and removed, and their extents.
 use Rattle.std.proofs.Common.{inl, inr, ◌≡◌, ◌≢◌, ℕ, zero, suc, ◌<◌, false, List, [], ◌∷◌, length, map, get_or, set}
 use Rattle.std.proofs.Common.{insert, remove, Option, Some, None, IsSome, refl, sym, ap, ◌∙◌, arith, subst}
 use Rattle.std.specs.List.{All}
@@ -27,7 +27,7 @@ not_in_at x [] i d n l = absurd (omega (arith, l))
 not_in_at x (k ∷ ks) zero d n l = n.0
 not_in_at x (k ∷ ks) (suc i) d n l = not_in_at x ks i d n.1 (omega (arith, l))
 
--- a key with nothing at it is none of those that have an extent
+-- a key without an extent is not among those that have one
 pub not_in_vacant : (s : Slab Extent) (ks : List ℕ) (key : ℕ) → get s key ≡ None → All (ContainsKey s) ks
     → IsNotIn key ks
 not_in_vacant s [] key none live = tt
@@ -36,14 +36,14 @@ not_in_vacant s (k ∷ ks) key none live = (
   not_in_vacant s ks key none (All-tail (ContainsKey s) k ks live),
 )
 
--- a key that is taken out is gone
+-- a removed key is no longer in the list
 pub not_in_rest : (ks : List ℕ) (i d : ℕ) → AreDistinct ks → i < length ks → IsNotIn (get_or ks i d) (remove ks i)
 not_in_rest [] i d a l = absurd (omega (arith, l))
 not_in_rest (k ∷ ks) zero d a l = a.0
 not_in_rest (k ∷ ks) (suc i) d a l =
     ((λ same. not_in_at k ks i d a.0 (omega (arith, l)) (sym same)), not_in_rest ks i d a.1 (omega (arith, l)))
 
--- Each key once.
+-- Each key occurs once.
 
 distinct_insert : (ks : List ℕ) (i key : ℕ) → AreDistinct ks → IsNotIn key ks → AreDistinct (insert ks i key)
 distinct_insert [] zero key a n = (tt, tt)
@@ -77,7 +77,7 @@ live_remove s (k ∷ ks) (suc i) live =
     All-cons (ContainsKey s) k (remove ks i) (All-head (ContainsKey s) k ks live)
     (live_remove s ks i (All-tail (ContainsKey s) k ks live))
 
--- a key that is not there changes
+-- a key that is not in the list changes
 live_others : (s t : Slab Extent) (ks : List ℕ) (key : ℕ) (slot : Option Extent) → Updates s t key slot → IsNotIn key ks
     → All (ContainsKey s) ks → All (ContainsKey t) ks
 live_others s t [] key slot u n live = All-nil (ContainsKey t)
@@ -131,7 +131,7 @@ extent_there s [] i key d l is = absurd (omega (arith, l))
 extent_there s (k ∷ ks) zero key d l is = ap (extent_at s) (sym is)
 extent_there s (k ∷ ks) (suc i) key d l is = extent_there s ks i key d (omega (arith, l)) is
 
--- One comes in.
+-- An extent is inserted.
 
 pub keys_put : (s t : Slab Extent) (ks : List ℕ) (i key : ℕ) (e : Extent) → Updates s t key (Some e) → get s key ≡ None
     → AreKeys s ks → AreKeys t (insert ks i key)
@@ -152,7 +152,7 @@ extents_put s t ks i key e u none a =
     (extents_others s t ks key (Some e) u (not_in_vacant s ks key none a.live))
     ∙ ap (λ (x : Extent). insert (map (extent_at s) ks) i x) (there t key e u.changed)
 
--- One goes.
+-- An extent is removed.
 
 pub keys_taken : (s t : Slab Extent) (ks : List ℕ) (i key : ℕ) → Updates s t key None → key ≡ get_or ks i key
     → i < length ks → AreKeys s ks → AreKeys t (remove ks i)
@@ -171,7 +171,7 @@ extents_taken s t ks i key u is l a =
     (subst (λ (k : ℕ). IsNotIn k (remove ks i)) (sym is) (not_in_rest ks i key a.distinct l))
     ∙ map_remove (extent_at s) ks i
 
--- One changes.
+-- An extent changes.
 
 pub keys_changed : (s t : Slab Extent) (ks : List ℕ) (key : ℕ) (e : Extent) → Updates s t key (Some e) → AreKeys s ks
     → AreKeys t ks

@@ -17,7 +17,7 @@ met_no e from to (inr h) = below e from to h where
   below : (e : Extent) (from to : ℕ) → end_of e ≤ from → meets from to e ≡ false
   below e from to h = grind (arith, nat_tests)
 
--- none beyond the range
+-- no extent from the end of the range on meets it
 met_late : (low : ℕ) (es : List Extent) (from to : ℕ) → IsApart low es → to ≤ low → met_in es from to ≡ None
 met_late low [] from to a h = refl
 met_late low (e ∷ es) from to a h =
@@ -43,7 +43,7 @@ met_missed low (e ∷ es) (suc k) from to d a h b f =
     ap (λ c. cond c (Some e) (met_in es from to)) (met_no e from to (inr (b 0 (omega arith))))
     ∙ met_missed (end_of e) es k from to d a.2 (omega arith) (λ j l. b (suc j) (omega arith)) (λ l. f (omega arith))
 
--- The extent that is met first, and the others.
+-- The first extent that meets a range, and the others.
 
 eq_yes : (m n : ℕ) → m ≡ n → (m == n) ≡ true
 eq_yes m n h = grind (arith, nat_tests)
@@ -73,7 +73,7 @@ met_begins low (x ∷ xs) from to e a h = here (meets from to x) h (met_begins (
       let later = met_low (end_of x) xs from to e a.2 h in
       ap (λ b. cond b (Some x) (begins_at xs e.at)) (eq_no x.at e.at (omega (arith, later, a.1))) ∙ ih h
 
--- without it the extents that are not met are the same
+-- removing it leaves the extents that do not meet the range unchanged
 pub unmet_less : (low : ℕ) (es : List Extent) (from to : ℕ) (e : Extent) → IsApart low es → met_in es from to ≡ Some e
     → unmet (without_at es e.at) from to ≡ unmet es from to
 unmet_less low [] from to e a h = cc
@@ -111,7 +111,7 @@ unmet_apart low (x ∷ xs) from to a = here (meets from to x) (unmet_apart (end_
   here true h = lower low (end_of x) (unmet xs from to) (omega (arith, a.0)) h
   here false h = (a.0, a.1, h)
 
--- what lies over a byte of an extent that is not met stays, and over one of those that are nothing lies
+-- an extent that does not meet the range keeps its cover, and the bytes of one that does have none
 pub unmet_stays : (es : List Extent) (from to i : ℕ) (e : Extent) → extent_over es i ≡ Some e → meets from to e ≡ false
     → cover (unmet es from to) i ≡ cover es i
 unmet_stays [] from to i e h m = refl

@@ -69,20 +69,20 @@ abbrev pub extent_over : List Extent → ℕ → Option Extent
 extent_over [] i = None
 extent_over (e ∷ es) i = if is_over e i then Some e else extent_over es i
 
--- what `over` finds is the extent over byte i, if one lies there
+-- `over` finds the extent over byte i, if there is one
 abbrev pub IsExtentOver : List Extent → (i : ℕ) → (found : Option (ℕ × Bor (List Slice) × Bool)) → Type 0
 IsExtentOver es i found = MatchOption found (extent_over es i ≡ None) (λ x. extent_over es i ≡ Some (extent_in x))
 
--- what `over` finds has what lies over byte i, if something does
+-- `over` finds the cover of byte i, if there is one
 abbrev pub HasCellOver : List Extent → (i : ℕ) → (found : Option (ℕ × Bor (List Slice) × Bool)) → Type 0
 HasCellOver es i found = MatchOption found (cover es i ≡ None) (λ x. cover es i ≡ Some (cell_in x i))
 
--- the extents stand in order from low on, none of them empty
+-- the extents are in order from `low` on, and none is empty
 abbrev pub IsApart : ℕ → List Extent → Type 0
 IsApart low [] = ⊤
 IsApart low (e ∷ es) = (low ≤ e.at) × (0 < byte_len e.parts) × IsApart (end_of e) es
 
--- the end of the last one
+-- the greatest end of an extent, or 0
 abbrev pub last_end : List Extent → ℕ
 last_end [] = 0
 last_end (e ∷ es) = max (end_of e) (last_end es)
@@ -110,7 +110,7 @@ begins_at (e ∷ es) at = if e.at == at then Some e else begins_at es at
 abbrev pub LacksAt : List Extent → (at : ℕ) → List Extent → Type 0
 LacksAt es at es' = IfSome (begins_at es at) (λ e. Lacks es e es')
 
--- the last one of es ends where its extent that begins at a place or the last one of es' ends, whichever is later
+-- the greatest end of es is the later of two: the end of its extent that begins at a place, and the greatest end of es'
 abbrev pub EndsAtLater : List Extent → (at : ℕ) → List Extent → Type 0
 EndsAtLater es at es' = IfSome (begins_at es at) (λ e. last_end es ≡ max (end_of e) (last_end es'))
 
@@ -122,7 +122,7 @@ dirty_in (e ∷ es) = if e.dirty then Some e else dirty_in es
 abbrev pub one_dirty : Extent → ℕ
 one_dirty e = if e.dirty then 1 else 0
 
--- none that begins before the place is dirty
+-- no extent that begins before the place is dirty
 abbrev pub AreCleanBefore : (place : ℕ) → List Extent → Type 0
 AreCleanBefore place es = AllByRecursion (λ (e : Extent). e.at < place → IsFalse e.dirty) es
 
@@ -139,7 +139,7 @@ pub record IsFirstDirty (es : List Extent) (at : ℕ) : Type 0 where
 abbrev pub as_clean : Extent → Extent
 as_clean e = extent_of e.at e.parts false
 
--- the extent at a place of the list is clean then, and nothing else changed
+-- the extent at an index of the list became clean, and nothing else changed
 abbrev pub CleansPlace : (place : ℕ) → (old new : List Extent) → Type 0
 CleansPlace place old new = (d : Extent) → new ≡ slice_set old place (as_clean (slice_index_or old place d))
 
@@ -148,7 +148,7 @@ abbrev pub cleaned_at : List Extent → (at : ℕ) → List Extent
 cleaned_at [] at = []
 cleaned_at (e ∷ es) at = if e.at == at then as_clean e ∷ es else e ∷ cleaned_at es at
 
--- how many extents are dirty
+-- the number of dirty extents
 abbrev pub dirty_count : List Extent → ℕ
 dirty_count es = sum_by one_dirty es
 
@@ -162,7 +162,7 @@ abbrev pub without_at : List Extent → (at : ℕ) → List Extent
 without_at [] at = []
 without_at (x ∷ xs) at = if x.at == at then xs else x ∷ without_at xs at
 
--- whether the extent has a byte of from..to; where these are one place, a byte before it and one from there on
+-- whether the extent has a byte of from..to; if `from` is `to`, whether it has a byte before it and one from there on
 abbrev pub meets : (from to : ℕ) → Extent → Bool
 meets from to e = nat_lt e.at to && nat_lt from (end_of e)
 

@@ -9,7 +9,7 @@ abbrev pub AreInOrder : (from to : ℕ) → List Span → Type 0
 AreInOrder from to [] = from ≤ to
 AreInOrder from to (s ∷ ss) = (from ≤ s.from) × (s.from < s.to) × AreInOrder s.to to ss
 
--- a byte lies in one of these spans
+-- a byte is in one of these spans
 abbrev pub LiesIn : (i : ℕ) → List Span → Type 0
 LiesIn i [] = ⊥
 LiesIn i (s ∷ ss) = ((s.from ≤ i) × (i < s.to)) ⊎ LiesIn i ss
@@ -39,7 +39,7 @@ pub record BeginsAt (es : List Extent) (at to : ℕ) (s : Span) (is_hit : Bool) 
   pub gap : IsFalse is_hit → IsGap es at s.to
   pub whole : IsFalse is_hit → IsWhole es to s
 
--- Hits and gaps of a range, each in order. Each byte of the range lies in one of them.
+-- Hits and gaps of a range, each in order. Each byte of the range is in one of them.
 pub record Tile (es : List Extent) (from to : ℕ) (found missed : List Span) : Type 0 where
   pub hits : AreInOrder from to found
   pub gaps : AreInOrder from to missed

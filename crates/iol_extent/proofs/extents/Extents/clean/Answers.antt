@@ -8,7 +8,7 @@ use Rattle.iol_extent.proofs.extents.Extents.clean.Goals as goal
 first : (c : After-count_before-found) → dirty_in c.self.inside.pieces.extents ≡ Some c.requires.extent
 first c = ap (λ (m : ExtentMap). dirty_in m.extents) c.self.view_is ∙ c.requires.is
 
--- it is the one that was found
+-- the extent at the index found is the first dirty one
 found : (c : After-count_before-found) → (c.count_before-found.result < length c.self.inside.pieces.extents)
     × (get_or c.self.inside.pieces.extents c.count_before-found.result c.requires.extent ≡ c.requires.extent)
     × (c.requires.extent.at ≡ c.args.at)

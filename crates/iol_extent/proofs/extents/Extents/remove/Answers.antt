@@ -8,7 +8,7 @@ use Rattle.iol_extent.proofs.CleanExtents.{clean_remove, dirty_remove}
 use Rattle.iol_extent.proofs.Words.{remove-without_at}
 use Rattle.iol_extent.proofs.extents.Extents.remove.Goals as goal
 
--- where the extent is found
+-- the index of the extent
 found : (es : List Extent) (k at : ℕ) (e : Extent) (ds fs : List Extent) → ds ≡ es → es ≡ fs → IsApart 0 es
     → k ≤ length ds → ((j : ℕ) (d : Extent) → j < k → end_of (get_or ds j d) ≤ at)
     → ((d : Extent) → k < length ds → at < end_of (get_or ds k d)) → begins_at fs at ≡ Some e
