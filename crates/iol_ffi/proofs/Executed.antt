@@ -1,4 +1,4 @@
--- What C gets of an event that was carried out, by the bytes that are in its memory.
+-- The reply that C gets for an event that was carried out, by the bytes in its memory.
 use Rattle.std.proofs.Common.{inl, inr, ◌≡◌, ◌∙◌, ◌≤◌, ◌<◌, ◌++◌, ℕ, List, length, take, drop, refl, sym, ap, subst}
 use Rattle.std.proofs.Common.{arith}
 use Rattle.std.specs.Prelude.{Result, Ok, Err}
@@ -43,7 +43,7 @@ shown_in by agg memory filled s (Ok n) r x (inr (refused, number, short)) =
     inr (refused, number ∙ count, omega (arith, full, ap length (x.shows.full full)))
 shown_in by agg memory filled s (Err why) r x refused = refused
 
--- the bytes that were read, at the front
+-- the bytes that were read, at the front of the memory
 pub read_in : (by fd : ℕ) (memory filled rest out : List ℕ) (old new : SystemState) (o : Result ℕ Refusal)
     (r : IolReply) → out ≡ filled ++ rest → ReadsTo by fd memory filled old o new → CountsRead o r
     → Encodes (reported reply.Bytes (first_of filled o)) r out

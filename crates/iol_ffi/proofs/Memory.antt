@@ -1,4 +1,4 @@
--- C does not get the lack of memory of a call that needs none.
+-- C gets no refusal for lack of memory for a call that needs none.
 use Rattle.std.proofs.Common.{inl, inr, ◌≡◌, ◌∙◌, ℕ, None, Some, ap, arith, refl, subst, sym}
 use Rattle.std.specs.Prelude.{Result, Ok, Err}
 use Rattle.iol_core.specs.declared.refusals.Refusal.{Refusal}
@@ -46,7 +46,7 @@ shown_not_memory (Ok n) room r (inl (done, few)) not is = omega (arith, done.0, 
 shown_not_memory (Ok n) room r (inr (short, number, less)) not is = omega (arith, short, is)
 shown_not_memory (Err why) room r reported not is = refused why r reported.0 not is
 
--- a request that needs no memory is none that needs some
+-- the claim holds for a request that may need memory
 pub not_needed : (q p : Request) (s : SystemState) (r : IolReply) → q ≡ p → (NeedsNone p s → ⊥) → NeedsNone q s
     → r.refusal ≡ 17 → ⊥
 not_needed q p s r same not none is = not (subst (λ (w : Request). NeedsNone w s) same none)

@@ -1,4 +1,4 @@
--- How the places of parts are written, one part after another.
+-- Writing the places of parts, one part after another.
 use Rattle.std.proofs.Common.{inl, inr, ◌≡◌, ◌≢◌, ◌⊎◌, ◌+◌, ◌-◌, ◌<◌, ◌≤◌, ℕ, zero, suc, List, [], ◌∷◌, length, drop}
 use Rattle.std.proofs.Common.{min, Option, None, Some, slice_get, slice_set, refl, sym, ap, ◌∙◌, subst, arith}
 use Rattle.iol_hold.specs.Addresses.{Located}
@@ -22,7 +22,7 @@ set_length [] i y = refl
 set_length (z ∷ xs) zero y = refl
 set_length (z ∷ xs) (suc i) y = ap suc (set_length xs i y)
 
--- the first of what is left, and the rest
+-- the first part that is left, and those after it
 pub left_first : {A : Type 0} (xs rest : List A) (k : ℕ) (x : A) → drop k xs ≡ x ∷ rest → slice_get xs k ≡ Some x
 left_first [] rest zero x is = absurd (cc)
 left_first [] rest (suc k) x is = absurd (cc)
@@ -48,7 +48,7 @@ writes_under k l parts skip old new before within h = record {
   kept = λ i above. h.kept i (omega (arith, before));
 }
 
--- where there is no place for a part, there is none for it that is written
+-- a part without a place is not written
 pub writes_full : (k : ℕ) (parts : List Located) (skip : ℕ) (old mid : List IolPart) → skip ≤ k → length mid ≤ k - skip
     → WritesBelow k parts skip old mid → WritesBelow (k + 1) parts skip old mid
 writes_full k parts skip old mid past full h = record {
@@ -134,7 +134,7 @@ writes_turn k l parts left rest p skip old mid new next fits at first (inr (inr 
     let is : slice_get parts k ≡ Some p = left_first parts rest k p (sym (at few) ∙ first) in
     subst (λ n. WritesBelow n parts skip old new) more (writes_next k parts skip old mid new p past is places h)
 
--- what is left after a turn
+-- the parts left after a turn
 pub left_turn : (k l : ℕ) (parts left rest : List Located) (p : Located) → l ≡ min (k + 1) 18446744073709551615
     → (k < 18446744073709551615 → left ≡ drop k parts) → left ≡ p ∷ rest
     → l < 18446744073709551615 → rest ≡ drop l parts

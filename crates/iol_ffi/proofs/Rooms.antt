@@ -1,4 +1,4 @@
--- The bytes that an event takes are at most those that it asks for, so they fit where there is room for these.
+-- An event takes at most the bytes that it requests, so they fit if there is room for those.
 use Rattle.std.proofs.Common.{inl, inr, ◌≡◌, ◌≤◌, Bool, ℕ, zero, suc, List, [], ◌∷◌, length, take, drop, Option, None}
 use Rattle.std.proofs.Common.{Some, refl, sym, ap, ◌∙◌, subst, arith}
 use Rattle.std.specs.List.{prefix_len}
@@ -62,7 +62,7 @@ read_most s by (Some (on.ReadEnd p)) n = queue_most (may_read s by) n (unread s 
 read_most s by (Some (on.WriteEnd p)) n = queue_most (may_read s by) n (unread s (Some (on.WriteEnd p)))
 read_most s by (Some (on.Connection c)) n = queue_most (may_read s by) n (unread s (Some (on.Connection c)))
 
--- the bytes that a reply has
+-- the bytes in a reply
 abbrev bytes_in : Reply → List ℕ
 bytes_in (reply.Bytes bs) = bs
 bytes_in (reply.Segment bs sum) = bs
@@ -76,7 +76,7 @@ most s e (inr (c, n, is)) =
     subst (λ (x : Event). length (bytes_in (meaning s x).answer) ≤ most_bytes x) (sym is)
     (sent_most n (conn_at s c).outgoing)
 
--- the step of the copying machine that a reply answers, whatever the bytes of files are
+-- the copying machine has a step with this reply, between two states
 record Answered (e : Event) (r : Reply) : Type 0 where
   before : State
   after : State
@@ -112,7 +112,7 @@ no_such refusal.Memory is = omega (arith, is)
 done_not : (refused : ℕ) → refused ≡ 0 → refused ≡ 101 → ⊥
 done_not n zero_it is = omega (arith, zero_it, is)
 
--- bytes that have room are returned
+-- bytes for which there is room are returned
 bytes_fit : (bs : List ℕ) (m : ℕ) (r : IolReply) (out : List ℕ) (bound : ℕ) → length bs ≤ bound → bound ≤ length out
     → ReturnsBytes bs m r out → r.refusal ≡ 101 → ⊥
 bytes_fit bs m r out bound few room (inl (done, same)) is = done_not r.refusal done.0 is

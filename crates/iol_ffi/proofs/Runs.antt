@@ -8,19 +8,19 @@ use Rattle.iol_ffi.specs.Runs.{Calls, CallsAreARun, Denote, StepCall}
 use Rattle.iol_ffi.specs.Steps.{CarriesOutOrNot}
 use Rattle.iol_ffi.specs.declared.Machine.{Machine}
 
--- the machine that a handle has, or another where it has none
+-- the machine of a handle, or another machine if it has none
 abbrev machine_or : Machine → Option Machine → Machine
 machine_or m None = m
 machine_or m (Some x) = x
 
--- the events of calls, with their replies, and the chain that they are
+-- the events of calls, with their replies, and their chain
 record Chained (old : Machine) (cs : List StepCall) (new : Machine) : Type 0 where
   events : List Event
   replies : List Reply
   denote : Denote cs events replies
   chain : Chain old.system events replies new.system
 
--- a call more, in front
+-- one more call, before the others
 call_first : (old mid new : Machine) (c : StepCall) (cs : List StepCall)
     → CarriesOutOrNot c.event c.bytes c.names c.reply c.out (Some old) (Some mid) → Chained mid cs new
     → Chained old (c ∷ cs) new

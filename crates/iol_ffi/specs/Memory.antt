@@ -20,7 +20,7 @@ NeedsNone (request.Show by agg) s = ⊤
 NeedsNone (request.Read by fd count) s = ReadsNoFile by fd count s
 NeedsNone q s = ⊥
 
--- the request needs no memory, and C does not get its lack
+-- if the request needs no memory, C gets no refusal for lack of memory
 abbrev pub IsNotMemory : Request → SystemState → IolReply → Type 0
 IsNotMemory q s r = NeedsNone q s → r.refusal ≢ 17
 

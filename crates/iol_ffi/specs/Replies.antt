@@ -53,7 +53,7 @@ abbrev pub CountsRead : Result ℕ Refusal → IolReply → Type 0
 CountsRead (Ok n) r = IsDone r n 0
 CountsRead (Err why) r = IsRefusal why r
 
--- C gets the number of an aggregate's bytes, which are in its memory if it has so much room, or the refusal
+-- C gets the number of an aggregate's bytes, which are in its memory if they have room there, or the refusal
 abbrev pub CountsShown : Result ℕ Refusal → (room : ℕ) → IolReply → Type 0
 CountsShown (Ok n) room r = (IsDone r n 0 × (n ≤ room)) ⊎ ((r.refusal ≡ 101) × (r.number ≡ n) × (room < n))
 CountsShown (Err why) room r = IsRefusal why r

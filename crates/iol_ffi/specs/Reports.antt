@@ -17,7 +17,7 @@ abbrev pub IsCounted : Result Report AllocError → IolReport → Type 0
 IsCounted (Ok x) r = HasCounts x r
 IsCounted (Err e) r = r.refusal ≡ 17
 
--- C gets what is in a system, counted
+-- C gets the counts of a system
 pub record IsReported (h : KernelState) (r : IolReport) : Type 0 where
   pub report : Result Report AllocError
   pub reports : Reports h report

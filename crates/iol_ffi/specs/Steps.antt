@@ -34,7 +34,7 @@ pub record TakesStep (event : Event) (r : IolReply) (out : List ℕ) (old new : 
   pub fits : TakesBytes event → r.refusal ≢ 101
 
 -- The machine takes a step by the event that C passed, for whose bytes `out` has room. If this event needs no memory, C
--- does not get its lack.
+-- gets no refusal for lack of memory.
 pub record CarriesOut (e : IolEvent) (bytes names : List ℕ) (r : IolReply) (out : List ℕ) (old new : Option Machine) :
     Type 0 where
   pub event : Event

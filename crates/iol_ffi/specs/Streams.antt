@@ -10,23 +10,23 @@ use Rattle.iol_ffi.specs.declared.Machine.{Machine}
 use Rattle.iol_ffi.specs.declared.replies.IolReply.{IolReply}
 use Rattle.iol_ffi.specs.declared.streams.Descriptor.{Descriptor}
 
--- how a read ended: 2 where it failed, 1 at the reader's end, else 0
+-- how a read ended: 2 if it failed, 1 at the reader's end, else 0
 abbrev pub ending_number : (end failed : Bool) → ℕ
 ending_number end true = 2
 ending_number true false = 1
 ending_number false false = 0
 
--- 1 where a writer failed, else 0
+-- 1 if a writer failed, else 0
 abbrev pub failed_number : Bool → ℕ
 failed_number true = 1
 failed_number false = 0
 
--- C gets how many bytes arrived, and how the read ended
+-- C gets the number of bytes that arrived, and how the read ended
 abbrev pub SaysArrived : Result Arrived Refusal → IolReply → Type 0
 SaysArrived (Ok a) r = IsDone r a.taken (ending_number a.end a.failed)
 SaysArrived (Err why) r = IsRefusal why r
 
--- C gets how many bytes were taken, and whether the writer failed
+-- C gets the number of bytes taken, and whether the writer failed
 abbrev pub SaysDrained : Result Drained Refusal → IolReply → Type 0
 SaysDrained (Ok d) r = IsDone r d.taken (failed_number d.failed)
 SaysDrained (Err why) r = IsRefusal why r
@@ -40,11 +40,11 @@ pub record Arrives (conn : ℕ) (fd : ℤ) (max : ℕ) (r : IolReply) (old new :
   pub serves : ServesReader conn max old new reader after None None outcome
   pub says : SaysArrived outcome r
 
--- the same, closed, so that it is passed on whole
+-- the same record, opaque to the prover, so that it is passed on whole
 unfoldable pub ArrivesBetween : (conn : ℕ) → (fd : ℤ) → (max : ℕ) → IolReply → (old new : SystemState) → Type 0
 ArrivesBetween conn fd max r old new = Arrives conn fd max r old new
 
--- a connection is served to descriptor `fd`, of which the bytes that it took are unknown, and C gets the outcome
+-- the output of a connection is written to descriptor `fd`, whose bytes are unknown, and C gets the outcome
 pub record Drains (conn : ℕ) (fd : ℤ) (max : ℕ) (r : IolReply) (old new : SystemState) : Type 0 where
   pub writer : Descriptor
   pub is : writer.fd ≡ fd

@@ -2,7 +2,7 @@ use Rattle.std.proofs.Common.{◌≡◌, ◌+◌, ◌≤◌, ◌<◌, drop, leng
 use Rattle.iol_ffi.specs.Parts.{WritesBelow, all_bytes}
 use Rattle.iol_ffi.proofs.borrowed.place_all.Given as goal
 
--- What was counted, and what is left to count, is what there is. The parts that were counted are written.
+-- The parts that were counted and those that are left are all parts. The parts that were counted are written.
 abbrev pub invariant-loop-part : goal.invariant-loop-part
 invariant-loop-part l = record {
   can : (goal.iterator-loop-part).can_next l.part-iterator;

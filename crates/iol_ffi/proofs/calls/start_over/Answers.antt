@@ -1,4 +1,4 @@
--- The files are those that were given.
+-- The files are those that were passed.
 use Rattle.std.proofs.Common.{refl}
 use Rattle.iol_ffi.proofs.calls.start_over.Goals as goal
 
