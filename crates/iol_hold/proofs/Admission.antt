@@ -1,4 +1,4 @@
--- A list that grows changes no buffer, no page and no chunk.
+-- Admitting a domain to a pool changes no buffer, no page and no chunk.
 use Rattle.std.proofs.Common.{◌≡◌, ◌∙◌, inl, ℕ, true, List, [], refl, sym, subst}
 use Rattle.std.specs.Prelude.{◌&&◌}
 use Rattle.std.specs.List.{Contains, list_all}
@@ -12,7 +12,7 @@ use Rattle.iol_hold.specs.Pages.{KeepsPages}
 use Rattle.iol_hold.proofs.PoolCalls.{pools_move}
 use Rattle.iol_hold.proofs.PageChanges.{keeps_pages_entries}
 
--- a pool that is closed as it was, and has the chunks that it had
+-- a pool with the same chunks, which is closed exactly if it was closed before, is still reclaimed
 reclaimed_alike : (s : Stored) (ps : List Pool) (q : ℕ) → (pool_in ps q).closed ≡ (pool_in s.pools q).closed
     → (pool_in ps q).chunks ≡ (pool_in s.pools q).chunks → IsReclaimed s q → IsReclaimed (with_pools s ps) q
 reclaimed_alike s ps q closed chunks was back =

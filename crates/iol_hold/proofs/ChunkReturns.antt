@@ -1,4 +1,4 @@
--- The chunks of a closed pool go back.
+-- Returning the chunks of a closed pool.
 use Rattle.std.proofs.Common.{◌≡◌, true, false, inl, inr, ℕ, ◌*◌, ◌/◌, Bool, List, [], ◌∷◌, refl, sym, ap, ◌∙◌, arith}
 use Rattle.std.proofs.Common.{subst}
 use Rattle.std.specs.Prelude.{◌&&◌}
@@ -20,7 +20,7 @@ use Rattle.iol_hold.specs.Moves.{Stays, Moves}
 use Rattle.iol_hold.proofs.LiveBuffers.{placed_stays, tidy_of}
 use Rattle.iol_hold.proofs.Moves.{moves_none}
 
--- the store with these pools, and with these chunks not given out
+-- the store after pool p has returned its chunks
 abbrev emptied : Stored → (p : ℕ) → Stored
 emptied s p = record {
   arena = with_returned s.arena (pool_in s.pools p).chunks;
@@ -28,7 +28,7 @@ emptied s p = record {
   counts = s.counts;
 }
 
--- the store with these pages and pools
+-- the store with this arena and these pools
 abbrev pub with_both : Stored → State → List Pool → Stored
 with_both s a ps = record { arena = a; pools = ps; counts = s.counts }
 
@@ -50,7 +50,7 @@ each_of f [] x h i = absurd i
 each_of f (y ∷ ys) x h (inl e) = ap f e ∙ first_of (f y) (list_all f ys) h
 each_of f (y ∷ ys) x h (inr i) = each_of f ys x (second_of (f y) (list_all f ys) h) i
 
--- no live buffer lies in an unused chunk
+-- no live buffer is in an unused chunk
 nothing_there : (s : State) (c : ℕ) (b : BufId) → is_unused s c ≡ true → b.page / 16 ≡ c → IsLive s b → ⊥
 unfolding chunk_pages
 nothing_there s c b unused at live =
@@ -98,7 +98,7 @@ emptied_moves s p there back = record {
     placed : (q : ℕ) → IsPlaced s.arena q → IsPlaced (emptied s p).arena q
     placed q h = placed_stays s.arena (emptied s p).arena q refl (λ b live lies. refl) h
 
--- the pool is settled, whether its chunks go back or not
+-- reclaiming a pool, whether its chunks are returned or not
 pub reclaimed_moves : (s : Stored) (p : ℕ)
     → Moves s (record {
       arena = reclaimed_arena s.arena s.pools p;
@@ -142,7 +142,7 @@ unfolding with_emptied
 emptied_there ps p there =
     ap (λ (x : Pool). x.chunks) (pool_in-there ps p (record (pool_in ps p) { chunks = [] }) there)
 
--- a pool whose chunks go back has none
+-- a pool has no chunks after they are returned
 pub chunks_returned : (a : State) (ps : List Pool) (p : ℕ) → goes_back a ps p ≡ true
     → (pool_in (reclaimed a ps p) p).chunks ≡ []
 chunks_returned a ps p back = elim (bool_cases (is_numbered ps p)) [
@@ -150,7 +150,7 @@ chunks_returned a ps p back = elim (bool_cases (is_numbered ps p)) [
   | inr out ↦ ap (λ (x : Pool). x.chunks) (pool_in-nowhere (reclaimed a ps p) p (is_numbered-reclaimed a ps p p ∙ out))
 ]
 
--- a pool that was settled has nothing left to give back
+-- a pool that was reclaimed has no more chunks to return
 pub reclaimed_reclaimed : (a : State) (ps : List Pool) (p : ℕ) (counts : List ℕ)
     → IsReclaimed (record { arena = reclaimed_arena a ps p; pools = reclaimed a ps p; counts = counts }) p
 reclaimed_reclaimed a ps p counts again = elim (bool_cases (goes_back a ps p)) [

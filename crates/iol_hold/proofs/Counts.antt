@@ -1,4 +1,4 @@
--- How often buffers are held.
+-- The counts of buffers.
 use Rattle.std.proofs.Common.{◌≡◌, ℕ, zero, suc, ◌+◌, ◌<◌, ◌≤◌, ◌⊎◌, inl, inr, List, [], ◌∷◌, ◌++◌, length, get_or}
 use Rattle.std.proofs.Common.{refl, sym, ap, ◌∙◌, arith, take, drop, map, Bool, true, false, eqb, cond, subst}
 use Rattle.std.proofs.lemmas.List.{get_or-set_same, get_or-set_other, get_or_default, map-append, take_more}
@@ -15,7 +15,7 @@ use Rattle.iol_hold.specs.declared.slices.Slice.{Slice}
 use Rattle.iol_hold.specs.Texts.{bufs_of}
 use Rattle.iol_hold.specs.Moves.{same, tally, Counts}
 
--- Of a list of holds.
+-- Lists of buffers that are held.
 
 pub tally-append : (b : BufId) (xs ys : List BufId) → tally b (xs ++ ys) ≡ tally b xs + tally b ys
 unfolding tally
@@ -42,7 +42,7 @@ other_page a b ne = rw (ne_eqb _ _ ne) refl
 pub other_generation : (a b : BufId) → a.page ≡ b.page → (a.generation ≡ b.generation → ⊥) → same a b ≡ 0
 other_generation a b e ne = rw (eq-eqb _ _ e, ne_eqb _ _ ne) refl
 
--- Of the entry of a page.
+-- The entry of a page.
 
 pub no_head : (e : Entry) (n g : ℕ) → kind_head e.kind ≡ false → count_in e n g ≡ 0
 no_head e n g h = rw h refl
@@ -67,7 +67,7 @@ head_of Pending e = cc
 head_of (Head n) e = refl
 head_of (Tail p) e = cc
 
--- What is held is live.
+-- A held buffer is live.
 
 pub live_head : (s : Stored) (b : BufId) → 0 < count_of s b → kind_head (entry_at s.arena b.page).kind ≡ true
 unfolding count_of
@@ -94,7 +94,7 @@ live_of s b h = record {
       live_generation s b h;
 }
 
--- and the count of a live buffer is the number that is kept for its first page
+-- and the count of a live buffer is the number stored for its first page
 pub count_live : (s : Stored) (b : BufId) → IsLive s.arena b → count_of s b ≡ get_or s.counts b.page 0
 unfolding count_of
 count_live s b h = present (entry_at s.arena b.page) (get_or s.counts b.page 0) b.generation (ap kind_head h.head)
@@ -111,11 +111,11 @@ past (x ∷ xs) (suc i) h = let ih = past xs i h in omega arith
 pub live_within : (s : Stored) (b : BufId) → 0 < count_of s b → b.page < length s.counts
 live_within s b h = past s.counts b.page (omega (arith, live_count s b h))
 
--- what the code reads
+-- the number that the code reads is the count
 pub count_read : (s : Stored) (b : BufId) (x : ℕ) → 0 < count_of s b → x ≡ get_or s.counts b.page x → x ≡ count_of s b
 count_read s b x h e = e ∙ get_or_default s.counts b.page x 0 (live_within s b h) ∙ live_count s b h
 
--- One buffer's count alone changes.
+-- Only one buffer's count changes.
 
 pub one_counts : (s t : Stored) (b : BufId) (xs ys : List BufId)
     → ((a : BufId) → (a.page ≡ b.page → ⊥) → count_of t a ≡ count_of s a)
@@ -158,7 +158,7 @@ set_counts s b n xs ys live others held =
     )))
     others (omega (arith, count_set s b n live, held))
 
--- one hold more, one hold less
+-- one hold is added, or one is released
 pub one_more : (s : Stored) (b : BufId) → 0 < count_of s b
     → Counts s (with_count s b.page (count_of s b + 1)) [] (b ∷ [])
 one_more s b live =
@@ -169,7 +169,7 @@ pub one_less : (s : Stored) (b : BufId) (n : ℕ) → n + 1 ≡ count_of s b →
 one_less s b n is = set_counts s b n (b ∷ []) [] (omega arith) (λ a e. omega (arith, tally_one a b, tally_none a, e))
     (omega (arith, is, tally_one b b, same_self b, tally_none b))
 
--- Of slices in a list.
+-- Slices in a list.
 
 pub bufs-append : (xs ys : List Slice) → bufs_of (xs ++ ys) ≡ bufs_of xs ++ bufs_of ys
 bufs-append xs ys = map-append (λ (x : Slice). x.hold.buf) xs ys
@@ -191,7 +191,7 @@ tally-take b xs i =
       tally-append b (bufs_of (take i xs)) (bufs_of (drop i xs)),
     )
 
--- the i-th slice is one of them
+-- the i-th slice counts in addition to those before it
 pub tally-at : (xs : List Slice) (i : ℕ) (x : Slice) (b : BufId) → i < length xs → x ≡ get_or xs i x
     → tally b (bufs_of (take i xs)) + same b x.hold.buf ≤ tally b (bufs_of xs)
 tally-at xs i x b h e =
@@ -203,7 +203,7 @@ tally-at xs i x b h e =
       tally_one b x.hold.buf,
     )
 
--- a list holds a buffer once at most for each of its members
+-- two buffers count as the same at most once
 pub same_few : (a b : BufId) → same a b ≤ 1
 same_few a b = elim (cases_eq a.page b.page) [
   | inl e ↦ elim (cases_eq a.generation b.generation) [

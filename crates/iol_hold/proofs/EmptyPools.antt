@@ -1,4 +1,4 @@
--- Pools that keep no chunks in which nothing lies.
+-- Closed pools keep no chunks whose pages are all empty.
 use Rattle.std.proofs.Common.{◌≡◌, true, false, inl, inr, ℕ, ◌+◌, ◌*◌, ◌/◌, Bool, List, [], ◌∷◌, ◌++◌, length, take}
 use Rattle.std.proofs.Common.{refl, sym, ap, ◌∙◌, arith, subst}
 use Rattle.std.specs.Prelude.{◌&&◌}
@@ -27,7 +27,7 @@ all_of f g (x ∷ xs) each h =
     let rest = all_of f g xs (λ y i. each y (inr i)) (second_of (f x) (list_all f xs) h) in
     rw (first, rest) refl
 
--- where each page of a chunk that is free was free, a chunk in which nothing lies had nothing
+-- if no page of a chunk became free, a chunk that is unused was unused before
 unused_of : (s t : State) (c : ℕ)
     → ((q : ℕ) → q / 16 ≡ c → kind_free (entry_at t q).kind ≡ true → kind_free (entry_at s q).kind ≡ true)
     → is_unused t c ≡ true → is_unused s c ≡ true
@@ -36,7 +36,7 @@ unused_of s t c each h =
     all_of (λ q. kind_free (entry_at t q).kind) (λ q. kind_free (entry_at s q).kind) (chunk_pages c)
     (λ q i. (let r = range_in (c * 16) 16 q i in each q (omega (arith, r.0, r.1)))) h
 
--- a pool that has its chunks still, in which no page became free
+-- if no page of an unchanged pool became free, the pool is still reclaimed
 pub reclaimed_of : (s t : Stored) (p : ℕ) → pool_in t.pools p ≡ pool_in s.pools p
     → ((q : ℕ) → Contains (pool_in s.pools p).chunks (q / 16) → kind_free (entry_at t.arena q).kind ≡ true
     → kind_free (entry_at s.arena q).kind ≡ true)
@@ -77,7 +77,7 @@ all_reclaimed_placed s t cs k pools same all =
           ∙ free
     ]) all
 
--- a buffer was freed: other pools are settled still, since it lies in one chunk, which has one pool
+-- a buffer was freed: the other pools are still reclaimed, since it is in one chunk, which has one pool
 pub reclaimed_freed : (s : Stored) (b : BufId) (pool : ℕ) → HasRuns s.arena.entries → AreOwned s.arena s.pools
     → IsLive s.arena b → IsInPool s pool b → AllReclaimed s
     → AllReclaimedBut pool (with_arena s (with_freed s.arena b.page))
@@ -95,7 +95,7 @@ reclaimed_freed s b pool runs owned live home all = record {
       ]) (all.each p);
 }
 
--- and then its own pool was settled
+-- then its own pool was reclaimed
 pub reclaimed_then : (s t : Stored) (p : ℕ) → t.arena ≡ reclaimed_arena s.arena s.pools p
     → t.pools ≡ reclaimed s.arena s.pools p → IsReclaimed t p → AllReclaimedBut p s → AllReclaimed t
 reclaimed_then s t p arena pools own others = record {
@@ -110,7 +110,7 @@ reclaimed_then s t p arena pools own others = record {
   ];
 }
 
--- a pool is closed, and not settled yet
+-- a pool is closed, and not yet reclaimed
 pub reclaimed_closed : (s : Stored) (p : ℕ) → AllReclaimed s
     → AllReclaimedBut p (record { arena = s.arena; pools = with_closed s.pools p; counts = s.counts })
 reclaimed_closed s p all = record {
@@ -126,7 +126,7 @@ reclaimed_none s none =
           ∙ ap (λ (x : Pool). x.chunks) (pool_in-none p);
     }
 
--- a new pool is open, and the others have their chunks
+-- a new pool is open, and the others keep their chunks
 pub reclaimed_added : (s t : Stored) (x : Pool) → x.closed ≡ false → t.pools ≡ s.pools ++ x ∷ []
     → t.arena.entries ≡ s.arena.entries → AllReclaimed s → AllReclaimed t
 reclaimed_added s t x is pools entries all = record {

@@ -30,7 +30,7 @@ tidy_of {s = s} h runs owned = record {
   owned = owned;
 }
 
--- the count of a live buffer changes, not to 0
+-- the count of a live buffer is set, and not to 0
 pub tidy_count : (s : Stored) (b : BufId) (n : ℕ) → 0 < count_of s b → 0 < n → IsTidy s → IsTidy (with_count s b.page n)
 tidy_count s b n live some tidy =
     let t = with_count s b.page n in
@@ -58,7 +58,7 @@ tidy_count s b n live some tidy =
       owned = tidy.owned;
     }
 
--- a buffer whose first page's entry stays
+-- a buffer stays live if the entry of its first page is unchanged
 pub live_stays : (s t : State) (b : BufId) → entry_at t b.page ≡ entry_at s b.page → IsLive s b → IsLive t b
 live_stays s t b e h = record {
   head = subst (λ x. x.kind ≡ Head (kind_len x.kind)) (sym e) h.head;
@@ -69,7 +69,7 @@ pub lies_stays : (s t : State) (b : BufId) (q : ℕ) → entry_at t b.page ≡ e
 lies_stays s t b q e h =
     record { from = h.from; to = subst (λ x. q < b.page + pages_for (kind_len x.kind)) (sym e) h.to }
 
--- a page whose entry stays, where the first pages of live buffers over it stay
+-- a page stays placed if its entry is unchanged, and so are the first pages of live buffers on it
 pub placed_stays : (s t : State) (q : ℕ) → entry_at t q ≡ entry_at s q
     → ((b : BufId) → IsLive s b → LiesOn s b q → entry_at t b.page ≡ entry_at s b.page) → IsPlaced s q → IsPlaced t q
 placed_stays s t q e first h = elim h [
@@ -87,7 +87,7 @@ module _ (s : State) (p n : ℕ) (head : (entry_at s p).kind ≡ Head n)
   abbrev freed : State
   freed = with_marked s p (pages_for n) Free 0
 
-  -- on the pages of the buffer nothing stands, and there is nothing past the last page
+  -- each page of the buffer is free, and a number past the last page counts as free
   cleared : (q : ℕ) → p ≤ q → q < p + pages_for n → (entry_at freed q).kind ≡ Free
   cleared q lo hi = elim (cases_lt q (length s.entries)) [
     | inl h ↦ ap (λ e. e.kind) (each_there (marked Free 0) p (pages_for n) q s.entries lo hi h)
@@ -97,7 +97,7 @@ module _ (s : State) (p n : ℕ) (head : (entry_at s p).kind ≡ Head n)
         (omega (arith, h, length-each_from (marked Free 0) p (pages_for n) s.entries)))
   ]
 
-  -- another live buffer's first page stays
+  -- the first page of another live buffer is unchanged
   other : (b : BufId) → IsLive s b → (b.page ≡ p → ⊥) → entry_at freed b.page ≡ entry_at s b.page
   other b live ne = elim (frees.others b.page ne) [
     | inl e ↦ e
@@ -129,7 +129,7 @@ module _ (s : State) (p n : ℕ) (head : (entry_at s p).kind ≡ Head n)
     ];
   }
 
-  -- a buffer that is live after was live before, on another page
+  -- a buffer that is live afterwards begins on another page, whose entry is unchanged
   pub freed_live : (b : BufId) → IsLive freed b → (b.page ≡ p → ⊥) × (entry_at freed b.page ≡ entry_at s b.page)
   freed_live b live =
       let ne : b.page ≡ p → ⊥ =

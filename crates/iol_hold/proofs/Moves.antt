@@ -16,7 +16,7 @@ counts_trans {xs = xs} {ys = ys} {zs = zs} {ws = ws} m n =
 pub counts_none : (s : Stored) → Counts s s [] []
 counts_none s = record { each = λ b. refl }
 
--- a buffer that is live before and after was live between
+-- a buffer that is live before the first change and after the second is live between them
 live_between : {a b c : State} (x : BufId) → Keeps a b → Keeps b c → IsLive a x → IsLive c x → IsLive b x
 live_between x m n h k =
     elim (n.kept x k) [ inl l ↦ l.0 | inr g ↦ absurd (omega (arith, m.rising x.page, h.generation)) ]
@@ -40,11 +40,11 @@ stays_trans m n = record {
   homes = λ p b h k home. (let mid = live_between b m.keeps n.keeps h k in n.homes p b mid k (m.homes p b h mid home));
 }
 
--- the arena changed, and the pools are the same
+-- only the arena changed
 pub stays_arena : (s : Stored) (a : State) → Keeps s.arena a → Stays s (with_arena s a)
 stays_arena s a keeps = record { keeps = keeps; homes = λ p b h k home. home }
 
--- where arena and pools are the same
+-- the arena and the pools are unchanged
 pub stays_same : (s t : Stored) → t.arena ≡ s.arena → t.pools ≡ s.pools → Stays s t
 stays_same s t a p =
     let u : Stored = record { arena = s.arena; pools = s.pools; counts = t.counts } in
@@ -81,18 +81,18 @@ pub covers_later : {s : Stored} (b : BufId) (bs : List BufId) → Covers s (b �
 unfolding tally
 covers_later b bs c = record { each = λ a. omega (arith, c.each a) }
 
--- the first of them is given up
+-- the first of them is released
 pub covers_less : {s t : Stored} (b : BufId) (bs : List BufId) → Covers s (b ∷ bs) → Counts s t (b ∷ []) []
     → Covers t bs
 unfolding tally
 covers_less b bs c m = record { each = λ a. omega (arith, c.each a, m.each a) }
 
--- holds that were just made
+-- holds that were just made are covered
 pub covers_given : {s t : Stored} {bs : List BufId} → Counts s t [] bs → Covers t bs
 unfolding tally
 covers_given m = record { each = λ a. omega (arith, m.each a) }
 
--- one more hold is given up
+-- one more hold is released
 pub moves_less : {a b c : Stored} {xs ys : List BufId} {y : BufId} → Moves a b xs (ys ++ y ∷ []) → Moves b c (y ∷ []) []
     → Moves a c xs ys
 moves_less {ys = ys} {y = y} m n = record {
@@ -103,13 +103,13 @@ moves_less {ys = ys} {y = y} m n = record {
   tidy = λ h. n.tidy (m.tidy h);
 }
 
--- the last of what is left of covered holds is held
+-- the last of the covered holds that are left is held
 pub last_held : (a b : Stored) (xs ys : List BufId) (y : BufId) → Covers a xs → Moves a b xs (ys ++ y ∷ [])
     → 0 < count_of b y
 last_held a b xs ys y c m =
     omega (arith, tally-append y ys (y ∷ []), tally_one y y, same_self y, c.each y, m.counts.each y)
 
--- what is live before and after has the same bytes
+-- a buffer that is live before and after has the same bytes
 pub bytes_stay : (s t : Stored) (b : BufId) → Stays s t → IsLive s.arena b → IsLive t.arena b
     → bytes_of t.arena b ≡ bytes_of s.arena b
 bytes_stay s t b m h k = elim (m.keeps.kept b k) [ inl e ↦ e.1 | inr g ↦ absurd (omega (arith, h.generation)) ]

@@ -27,7 +27,7 @@ new_tidy a ps counts n e owned =
           absurd (cc (x, y)));
     }) owned
 
--- no chunk was given out
+-- no chunk is taken
 pub none_taken : (taken : List Bool) (n : ℕ) → taken ≡ replicate n false → (c : ℕ) → c < length taken
     → get_or taken c true ≡ false
 none_taken taken n e c h = ap (λ l. get_or l c true) e

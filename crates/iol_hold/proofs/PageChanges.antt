@@ -1,4 +1,4 @@
--- What becomes of pages: where nothing changes, after releases, after a placing, and one step after another.
+-- Pages if nothing changes, after releases, after buffers are made, and over several steps.
 use Rattle.std.proofs.Common.{◌≡◌, inl, inr, true, false, ℕ, ◌-◌, List, [], ◌∷◌, get_or, map, ap, sym, ◌∙◌, length}
 use Rattle.std.proofs.Common.{refl, arith, zero, suc}
 use Rattle.std.specs.List.{Contains}
@@ -45,7 +45,7 @@ keeps_pages_frees frees = record {
   returned = λ p is. frees.chunks p;
 }
 
--- where pages are as they were, pools that stay open have their chunks, and closed ones all or none
+-- if no entry changed, pools that stay open have their chunks, and closed ones have all or none
 pub keeps_pages_entries : (s t : Stored) → t.arena.entries ≡ s.arena.entries → t.arena.limit ≡ s.arena.limit
     → ((p : ℕ) → (pool_in s.pools p).closed ≡ false → (pool_in t.pools p).closed ≡ false
     → (pool_in t.pools p).chunks ≡ (pool_in s.pools p).chunks)
@@ -64,7 +64,7 @@ keeps_pages_entries s t entries limit chunks returned = record {
   returned = returned;
 }
 
--- after a placing on these pages
+-- buffers were made on these pages
 pub keeps_pages_made : {s t : Stored} {bufs : List BufId} {placed : List ℕ} → MadeOn s.arena t.arena bufs placed
     → IsSameBut placed s.arena t.arena → Grows s.arena t.arena → t.pools ≡ s.pools → KeepsPages s t placed
 keeps_pages_made made others grows pools = record {
@@ -76,7 +76,7 @@ keeps_pages_made made others grows pools = record {
   returned = λ p is. inl (ap (λ (ps : List Pool). (pool_in ps p).chunks) pools);
 }
 
--- a pool of the same lists is open as it was
+-- Pools with the same lists are open or closed alike.
 numbered_map : {A B : Type 0} (f : A → B) (xs : List A) (i : ℕ) (z : A) → f (get_or xs i z) ≡ get_or (map f xs) i (f z)
 numbered_map f [] i z = refl
 numbered_map f (x ∷ xs) zero z = refl
@@ -100,7 +100,7 @@ same_closed s t same p = elim (cases_eq p 0) [
       ∙ ap (λ l. get_or l (p - 1) (pool_meant no_pool)) same ∙ sym (meant_at s.pools p some))
 ]
 
--- a step that leaves the lists of pools, and then another
+-- a step that keeps the lists of pools, and then another
 pub returned_then : (a b c : Stored) {placed : List ℕ} → SameLists a b → KeepsPages a b placed → (p : ℕ)
     → HasAllOrNone b c p → HasAllOrNone a c p
 returned_then a b c same m p n = elim (bool_cases (pool_in b.pools p).closed) [
@@ -108,7 +108,7 @@ returned_then a b c same m p n = elim (bool_cases (pool_in b.pools p).closed) [
   | inr is ↦ all_or_none a b c p (inl (m.chunks p (sym (same_closed a b same p) ∙ is) is)) n
 ]
 
--- two steps that place nothing, the first of which leaves the lists of pools
+-- two steps that make no buffers, of which the first keeps the lists of pools
 pub keeps_pages_trans : {a b c : Stored} → SameLists a b → KeepsPages a b [] → KeepsPages b c [] → KeepsPages a c []
 keeps_pages_trans {a = a} {b = b} {c = c} same m n = record {
   count = n.count ∙ m.count;

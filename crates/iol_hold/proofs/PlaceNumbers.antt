@@ -1,4 +1,4 @@
--- The numbers of places tell the places apart.
+-- Different places have different numbers.
 use Rattle.std.proofs.Common.{inl, inr, ◌≡◌, ℕ, ◌+◌, ◌*◌, ◌<◌, ◌≤◌, List, [], ◌∷◌, map, length, drop, get_or, refl, ap}
 use Rattle.std.proofs.Common.{arith}
 use Rattle.std.proofs.lemmas.Bool.{cases_order}
@@ -61,6 +61,6 @@ same_numbers (p ∷ ps) (q ∷ qs) e =
 pub layout_text-same : (xs ys : List Slice) → layout_text xs ≡ layout_text ys → places xs ≡ places ys
 layout_text-same xs ys e = same_numbers (places xs) (places ys) e
 
--- slices laid out alike hold the same text, whatever is stored
+-- slices with the same layout have the same text, for any contents of the store
 pub text_of_layout : (s : Stored) (xs ys : List Slice) → layout_text xs ≡ layout_text ys → text_of s xs ≡ text_of s ys
 text_of_layout s xs ys e = ap (map (byte_at s)) (layout_text-same xs ys e)

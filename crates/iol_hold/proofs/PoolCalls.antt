@@ -15,7 +15,7 @@ use Rattle.iol_hold.proofs.Moves.{moves_trans}
 use Rattle.iol_hold.proofs.LiveBuffers.{placed_stays, tidy_of}
 use Rattle.iol_hold.proofs.ChunkReturns.{reclaimed_moves}
 
--- the store with these pools, where memory and pages are the same
+-- the store with these taken chunks and these pools
 abbrev with_taken : Stored → List Bool → List Pool → Stored
 with_taken s taken ps =
     record {
@@ -31,7 +31,7 @@ with_taken s taken ps =
       counts = s.counts;
     }
 
--- where each pool keeps its chunks
+-- if each pool keeps its chunks, no hold moves
 pub pools_move : (s : Stored) (taken : List Bool) (ps : List Pool)
     → ((p c : ℕ) → Contains (pool_in s.pools p).chunks c → Contains (pool_in ps p).chunks c)
     → (AreOwned s.arena s.pools → AreOwned (with_taken s taken ps).arena ps) → Moves s (with_taken s taken ps) [] []

@@ -1,4 +1,4 @@
--- Buffers made on pages that waited, each held once. The other pages that waited are free.
+-- Buffers made on pending pages, each held once. The other pending pages become free.
 use Rattle.std.proofs.Common.{◌≡◌, true, ℕ, suc, ◌+◌, ◌<◌, ◌⊎◌, inl, inr, List, [], ◌∷◌, ◌++◌, Bool, length, map}
 use Rattle.std.proofs.Common.{get_or, set, drop, nat_lt, ◌&&◌, refl, sym, ap, ◌∙◌, arith, subst, length-set}
 use Rattle.std.specs.List.{All, range_with_len}
@@ -26,7 +26,7 @@ use Rattle.iol_hold.proofs.Counts.{bufs-held_in, tally_none, same_self, equal_bu
 use Rattle.iol_hold.proofs.Counts.{no_head, absent, present, count_live}
 use Rattle.iol_hold.proofs.LiveBuffers.{HoldsAll, live_stays, placed_stays}
 
--- Of new buffers in a list.
+-- New buffers in a list.
 
 abbrev pub firsts : List BufId → List ℕ
 firsts bs = map (λ (b : BufId). b.page) bs
@@ -89,7 +89,7 @@ pub all_held-append : (counts : List ℕ) (xs ys : List BufId)
 all_held-append counts [] ys = refl
 all_held-append counts (x ∷ xs) ys = all_held-append (set counts x.page 1) xs ys
 
--- Of the runs on which they were made.
+-- The runs on which they were made.
 
 firsts_rising : (s : State) (low : ℕ) (rs : List Part) → AreApart low rs
     → IsRisingFrom low (firsts (map (begun_on s) rs))
@@ -100,7 +100,7 @@ firsts_rising s low (r ∷ rs) apart = (
       (omega (arith, apart.0.some)) (firsts_rising s (r.first + r.count) rs apart.1),
 )
 
--- the page lies in a new buffer
+-- the page is in a new buffer
 abbrev pub IsOn : State → List BufId → ℕ → Type 0
 IsOn t bs q = (b : BufId) × In (firsts bs) b.page × LiesOn t b q
 
@@ -114,8 +114,8 @@ run_of s t (r ∷ rs) q whole h = elim (in_either (range_with_len r.first r.coun
   | inr k ↦ (let x = run_of s t rs q (ap (drop 1) whole) k in (x.0, inr x.1, x.2))
 ]
 
--- The pages waited. On those that are placed lie new buffers, each held once, and the others are free. Nothing else
--- changed.
+-- The pages were pending. Those that are placed are in new buffers, each held once, and the others are free. Nothing
+-- else changed.
 pub record Makes (s t : Stored) (pages placed : List ℕ) (bufs : List BufId) : Type 0 where
   pub waited : (q : ℕ) → In pages q → (entry_at s.arena q).kind ≡ Pending
   pub others : IsSameBut pages s.arena t.arena
@@ -148,7 +148,7 @@ module _ (s t : Stored) (pages placed : List ℕ) (bufs : List BufId) (m : Makes
       let whole = ap (map (λ (b : BufId). pages_for (len_of t.arena b))) (sym m.on.begun) ∙ m.on.whole in
       subst (λ bs. IsOn t.arena bs q) (sym m.on.begun) (run_of s.arena t.arena m.on.runs q whole there)
 
-  -- what stands on its pages
+  -- the kind of a page in a new buffer
   kind_on : (q : ℕ) → IsOn t.arena bufs q
       → (In (firsts bufs) q × ((entry_at t.arena q).kind ≡ Head (len_of t.arena (next s.arena q))))
       ⊎ ((p : ℕ) × ((entry_at t.arena q).kind ≡ Tail p))
@@ -163,7 +163,7 @@ module _ (s t : Stored) (pages placed : List ℕ) (bufs : List BufId) (m : Makes
         | inr ne ↦ inr (b.page, (m.runs.each b.page (len_of t.arena b) head).tails q (omega (arith, at.from, ne)) at.to)
       ]
 
-  -- what stands on a page that waited
+  -- a page that was pending is free, or in a new buffer
   kind_now : (q : ℕ) → In pages q → ((entry_at t.arena q).kind ≡ Free) ⊎ IsOn t.arena bufs q
   kind_now q h = elim (in_or_out placed q) [
     | inl p ↦ inr (lies q p)
@@ -174,7 +174,7 @@ module _ (s t : Stored) (pages placed : List ℕ) (bufs : List BufId) (m : Makes
         (m.back q h off)))
   ]
 
-  -- where no new buffer begins, none was made or freed
+  -- where no new buffer begins, no buffer was made or freed
   spared : (q : ℕ) → (In (firsts bufs) q → ⊥) → IsSpared s.arena t.arena q
   spared q off = elim (in_or_out pages q) [
     | inl there ↦ inr (
@@ -255,7 +255,7 @@ module _ (s t : Stored) (pages placed : List ℕ) (bufs : List BufId) (m : Makes
             )
       ]
 
-  -- each page is in a buffer that is held, or free, or waits
+  -- each page is in a held buffer, or free, or pending
   pub made_holds : HoldsAll s → HoldsAll t
   made_holds tidy = record {
     held = λ b live. elim (in_or_out (firsts bufs) b.page) [
@@ -280,7 +280,7 @@ module _ (s t : Stored) (pages placed : List ℕ) (bufs : List BufId) (m : Makes
     ];
   }
 
-  -- none of the pages waits any more
+  -- the pages are no longer pending
   done : (q : ℕ) → In pages q → (entry_at t.arena q).kind ≡ Pending → ⊥
   done q there pending = elim (kind_now q there) [
     | inl free ↦ cc (free, pending)
@@ -298,7 +298,7 @@ module _ (s t : Stored) (pages placed : List ℕ) (bufs : List BufId) (m : Makes
     | inr out ↦ (sym (ap (λ e. e.kind) (out_same q out)) ∙ pending, out)
   ]
 
-  -- where all pages are placed, no page but those was or is free
+  -- if all pages are placed, the pages that may be used are the same as before
   pub made_usable : t.arena.limit ≡ s.arena.limit → ((q : ℕ) → In pages q → In placed q) → (q : ℕ)
       → usable t.arena q ≡ usable s.arena q
   made_usable limit all q = elim (in_or_out pages q) [
@@ -333,7 +333,7 @@ made_publishes s t ps placed bufs m grows pools = record {
       };
 }
 
--- Of holds on the new buffers.
+-- Holds on the new buffers.
 
 pub held_named : (p : ℕ) (bufs : List BufId) (holds : List Buffer) → holds ≡ held_in p bufs → held_bufs holds ≡ bufs
 held_named p bufs holds is = ap (map (λ (h : Buffer). h.buf)) is ∙ bufs-held_in p bufs

@@ -1,4 +1,4 @@
--- What can be read, and what is read there.
+-- Slices that can be read, and the bytes that are read.
 use Rattle.std.proofs.Common.{◌≡◌, ℕ, ◌+◌, ◌-◌, ◌<◌, ◌≤◌, List, [], ◌∷◌, ◌++◌, map, length, take, drop, slice_index}
 use Rattle.std.proofs.Common.{slice_range, refl, sym, ap, ◌∙◌, subst, arith}
 use Rattle.std.specs.List.{All, range_with_len}
@@ -30,7 +30,7 @@ readable_joined {s} {xs} {ys} h k =
           All-same (IsThere s) _ _ (places-append xs ys) (All-append (IsThere s) (places xs) (places ys) h.each k.each);
     }
 
--- slices whose bytes lie at the first, or the other, places of slices that can be read
+-- slices at the first, or at the other, places of readable slices are readable
 pub readable_taken : {s : Stored} (xs ys : List Slice) (n : ℕ) → places xs ≡ take n (places ys) → AllReadable s ys
     → AllReadable s xs
 readable_taken {s} xs ys n e h =
@@ -183,7 +183,7 @@ text_stays {old} {new} (x ∷ xs) m c h =
     (text_stays xs m (covers_later x.hold.buf (bufs_of xs) c) (readable_later x xs h))
     ∙ sym (map-append (byte_at old) (slice_places x) (places xs))
 
--- Slices given up one after another, from the last.
+-- Slices released one after another, from the last.
 
 pub bufs_of-push : (xs ys : List Slice) (x : Slice) → xs ≡ ys ++ x ∷ [] → bufs_of xs ≡ bufs_of ys ++ x.hold.buf ∷ []
 bufs_of-push xs ys x e = ap bufs_of e ∙ map-append (λ (z : Slice). z.hold.buf) ys (x ∷ [])
@@ -195,7 +195,7 @@ readable_last (y ∷ ys) x h =
     let r = readable_last ys x (readable_later y (ys ++ x ∷ []) h) in
     (readable_cons y ys (readable_first y (ys ++ x ∷ []) h) r.0, r.1)
 
--- what was readable and is held is where it was
+-- if a readable slice's buffer is still held, it is still in its pool
 pub home_stays : {old new : Stored} (x : Slice) → Stays old new → 0 < count_of new x.hold.buf → IsReadable old x
     → IsInPool new x.hold.pool x.hold.buf
 home_stays {new = new} x m held h = m.homes x.hold.pool x.hold.buf h.live (live_of new x.hold.buf held) h.home

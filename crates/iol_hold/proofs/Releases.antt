@@ -30,13 +30,13 @@ none_first k q p free some = absurd_of (sym (ap (λ (x : kind.PageKind). first_o
     absurd_of : None ≡ Some p → ⊥
     absurd_of e = cc
 
--- one step after another
+-- two steps, one after the other
 pub all_or_none : (a b c : Stored) (p : ℕ) → HasAllOrNone a b p → HasAllOrNone b c p → HasAllOrNone a c p
 all_or_none a b c p m (inr none) = inr none
 all_or_none a b c p (inl was) (inl same) = inl (same ∙ was)
 all_or_none a b c p (inr none) (inl same) = inr (same ∙ none)
 
--- where no entry changed
+-- no entry changed
 pub frees_chunks : (s t : Stored) → t.arena.entries ≡ s.arena.entries → t.arena.limit ≡ s.arena.limit
     → ((p : ℕ) → (pool_in s.pools p).closed ≡ false → pool_in t.pools p ≡ pool_in s.pools p)
     → ((p : ℕ) → HasAllOrNone s t p) → FreesOnly s t
@@ -84,7 +84,7 @@ frees_trans {a = a} {b = b} {c = c} {xs = xs} m n counts = record {
   ];
 }
 
--- of the pages of a freed buffer
+-- the pages of a freed buffer
 module _ (s : State) (p : ℕ) (runs : HasRuns s.entries)
     (head : (entry_at s p).kind ≡ Head (kind_len (entry_at s p).kind)) where
   abbrev count : ℕ
@@ -147,7 +147,7 @@ frees_one s b runs after live = record {
   ];
 }
 
--- chunks that go back leave pages as they are
+-- returning chunks changes no entry
 pub reclaimed_entries : (s : State) (ps : List Pool) (p : ℕ) → (reclaimed_arena s ps p).entries ≡ s.entries
 unfolding reclaimed_arena
 reclaimed_entries s ps p =
@@ -172,7 +172,7 @@ open_reclaimed s ps p q is = elim (cases_eq q p) [
   | inr ne ↦ pool_in-reclaimed s ps p q ne
 ]
 
--- all chunks of one pool may go back, and those of the others stay
+-- a pool returns all its chunks or none, and the others keep theirs
 pub chunks_reclaimed : (s : State) (ps : List Pool) (p q : ℕ)
     → ((pool_in (reclaimed s ps p) q).chunks ≡ (pool_in ps q).chunks) ⊎ ((pool_in (reclaimed s ps p) q).chunks ≡ [])
 chunks_reclaimed s ps p q = elim (cases_eq q p) [

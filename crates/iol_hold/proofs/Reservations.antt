@@ -1,4 +1,4 @@
--- Pages that are reserved: no buffer is made or freed, and they alone wait.
+-- Reserved pages: no buffer is made or freed, and no other page becomes pending.
 use Rattle.std.proofs.Common.{◌≡◌, ℕ, ◌+◌, ◌<◌, inl, inr, List, [], Ok, drop, length, get_or, refl, sym, ap, ◌∙◌, arith}
 use Rattle.std.proofs.Common.{subst}
 use Rattle.iol_core.specs.declared.numbers.BufId.{BufId}
@@ -30,7 +30,7 @@ use Rattle.iol_hold.proofs.LiveBuffers.{HoldsAll, holds_all, placed_stays, tidy_
 use Rattle.iol_hold.proofs.Moves.{counts_trans, moves_none}
 use Rattle.iol_hold.proofs.Rooms.{no_pages, room_for_none}
 
--- the first page of a live buffer stays
+-- the entry of a live buffer's first page is unchanged
 spared_first : (s t : State) (b : BufId) → Spares s t → IsLive s b → entry_at t b.page ≡ entry_at s b.page
 spared_first s t b spares live =
     elim (spares.each b.page) [ inl e ↦ e | inr f ↦ (let head = ap kind_head live.head in absurd (cc (head, f.0))) ]
@@ -49,7 +49,7 @@ spare_counts s a spares = record {
   ];
 }
 
--- every live buffer is held, where none is made
+-- if no buffer was made, every live buffer is held
 pub spare_held : (s : Stored) (a : State) → Spares s.arena a → HoldsAll s → (b : BufId) → IsLive a b
     → 0 < count_of (with_arena s a) b
 spare_held s a spares tidy b live = elim (spares.each b.page) [
@@ -64,7 +64,7 @@ spare_held s a spares tidy b live = elim (spares.each b.page) [
   | inr none ↦ (let head = ap kind_head live.head in absurd (cc (head, none.1)))
 ]
 
--- the pages of the parts wait, and no other page changed
+-- the pages of the parts are pending, and no other page changed
 module _ (s : Stored) (a : State) (ps : List Part) (spares : Spares s.arena a)
     (others : IsSameBut (part_pages ps) s.arena a) (all : AreAll Pending a.limit a.entries ps) where
   out_same : (q : ℕ) → (In (part_pages ps) q → ⊥) → entry_at a q ≡ entry_at s.arena q
@@ -88,7 +88,7 @@ module _ (s : Stored) (a : State) (ps : List Part) (spares : Spares s.arena a)
     ];
   }
 
--- only bytes change
+-- only bytes changed
 pub same_spares : (s a : State) → a.entries ≡ s.entries → Spares s a
 same_spares s a e = record { each = λ q. inl (ap (λ (es : List Entry). entry_in es q) e) }
 
@@ -137,7 +137,7 @@ same_held s r a e l held = record {
   inside = held.inside;
 }
 
--- Filled, and then published.
+-- Parts that are filled, and then published.
 
 pub fills_trans : {a b c : Stored} {ps : List Part} → Fills a b ps → Fills b c ps → Fills a c ps
 fills_trans m n = record {
@@ -162,7 +162,7 @@ fill_publish {a} {b} {c} m n tidy = record {
   tidy = λ h. tidy;
 }
 
--- no bytes are filled in
+-- zero bytes are filled in
 pub none_filled : (s : Stored) (p : ℕ) → IsTidy s → FillsHolds s s p [] (Ok [])
 none_filled s p tidy = record {
   moves = moves_none s;
@@ -185,7 +185,7 @@ none_filled s p tidy = record {
   err = tt;
 }
 
--- Parts that wait to be published, one by one. The parts are cited as a call answered them.
+-- Pending parts, one by one. The parts are those that a call returned.
 
 pub part_waits : (s : Stored) (r : Reserved) (ps : List Part) (i : ℕ) → ps ≡ r.reservation.parts.items → IsHeld s r
     → i < length r.reservation.parts.items → IsWaiting s.arena (get_or ps i no_part)

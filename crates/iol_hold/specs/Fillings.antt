@@ -75,8 +75,8 @@ abbrev pub IsZeroed : Fill → Type 0
 IsZeroed f = All (IsZero (filling_store f).arena) (filling_parts f)
 
 -- A filling was begun, on the lowest free pages of pool p for n bytes, all zeros: no buffer was made or freed, no other
--- page changed, and it borrows the reference of this name. Or none was begun, for lack of memory, or for lack of room,
--- and then there is none.
+-- page changed, and it borrows the reference of this name. `NoRoom` is returned only if the pool has no room for n
+-- bytes; the only other error is `Memory`.
 pub record BeginsFilling (old : Stored) (lender : GName) (p n : ℕ) (r : Result Fill Refusal) : Type 0 where
   pub filling : IfOk r IsFilling
   pub zeroed : IfOk r IsZeroed

@@ -30,7 +30,7 @@ after c = record {
       c.hold_once.new.counts.items;
 }
 
--- buffers were made on the first pages, and the others go back
+-- buffers were made on the first pages, and the others become free
 makes : (c : goal.After-new)
     → Makes (stored c.self.inside) (after c) (part_pages c.args.reserved.reservation.parts.items)
     (needed_pages c.args.reserved.reservation.parts.items c.args.len) c.publish_reserved-bufs.result.items
@@ -88,7 +88,7 @@ returns c =
     let held = subst (λ (x : Stored). IsHeld x c.args.reserved) (sym c.self.view_is) c.requires in
     let e = c.publish_reserved-bufs.ensures in
     let m = makes c in
-    -- the names of the holds are those of the new buffers
+    -- the buffers of the holds are the new buffers
     let named = held_named p bufs c.new.result c.new.ensures in
     let one : BufId → Buffer = λ b. record { pool = p; buf = b } in
     let places = new_places pages bufs (λ q out. e.others.each q (λ h. out (in_contains pages q h))) e.adds.made in
