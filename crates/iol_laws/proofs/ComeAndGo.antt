@@ -1,4 +1,4 @@
--- Aggregates are added under the numbers in replies, and consumed ones are gone.
+-- Aggregates are added under the numbers in replies, and consumed ones are removed.
 use Rattle.std.proofs.Common.{inl, inr, ◌≡◌, ◌≢◌, ◌≤◌, ℕ, ◌+◌, ◌==◌, List, [], ◌∷◌, ◌++◌, take, drop, ap, ◌∙◌, refl}
 use Rattle.std.proofs.Common.{sym, subst, arith, Option, Some, None, true, false, Bool, append_assoc}
 use Rattle.std.specs.Prelude.{option_map, is_none, fold, ◌&&◌, ◌||◌}

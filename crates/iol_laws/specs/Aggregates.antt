@@ -1,4 +1,4 @@
--- Aggregates are added and removed: a domain gets one only under a number in a reply, and a consumed one is gone.
+-- Aggregates are added and removed: a domain gets one only under a number in a reply, and a consumed one is removed.
 use Rattle.std.specs.Prelude.{◌≡◌, ℕ, ◌==◌, ◌&&◌, ◌||◌, Bool, true, false, None, IsTrue, IsFalse}
 use Rattle.iol_core.specs.State.{State}
 use Rattle.iol_core.specs.Run.{StepsTo}
@@ -27,6 +27,6 @@ pub record AggregatesComeAndGo : Type 0 where
   -- a number without aggregate has none after a step that does not give the domain this number
   pub none : (s t : State) (e : Event) (r : Reply) (d a : ℕ) → StepsTo s e r t → readable_at s d a ≡ None
       → IsFalse (brings e r d a) → readable_at t d a ≡ None
-  -- an aggregate that a successful call consumes is gone
+  -- an aggregate that a successful call consumes is removed
   pub gone : (s t : State) (e : Event) (r : Reply) (d a : ℕ) → IsOrderly s → StepsTo s e r t → IsTrue (gives_up e d a)
       → IsFalse (is_refusal r) → readable_at t d a ≡ None

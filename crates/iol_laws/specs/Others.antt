@@ -78,7 +78,7 @@ pub record OthersLeaveConnections : Type 0 where
       → Transmits s c max r t
   pub peer_closed : (s t : State) (c : ℕ) (how : How) (r : Reply) → IsOrderly s → StepsTo s (event.PeerClosed c how) r t
       → PeerCloses s c how r t
-  -- as many bytes come in as fit
+  -- as many of the arriving bytes are received as fit
   pub arrive_count : (s t : State) (c : ℕ) (bytes : List ℕ) (k : ℕ) → StepsTo s (event.Arrive c bytes) (reply.Count k) t
       → k ≡ min (length bytes) (MAX_QUEUE_BYTES - length (conn_at s c).incoming)
   -- a segment has max bytes, or all queued bytes if these are fewer, and their checksum

@@ -250,7 +250,7 @@ module _ (pools : ℕ → Bool) where
       by None is = subst (λ (o : Option Text). Lie (unwrap_or o [])) (sym is) refl
       by (Some x) is = (let e = ap (λ (o : Option Text). option_map bytes_of o) is in absurd (cc (e, none)))
 
-  -- an aggregate that existed before is unchanged, or gone
+  -- an aggregate that existed before is unchanged, or it was removed
   lie-old : (s t : State) (e : Event) (r : Reply) (d a : ℕ) → IsOrderly s → StepsTo s e r t → brings e r d a ≡ false
       → Lie (text s d a) → Lie (text t d a)
   lie-old s t e r d a order step un lies = by (aggregate s d a) refl (gives_up e d a) refl (is_refusal r) refl
