@@ -1,4 +1,4 @@
--- The first bytes of a queue, as they are copied one slice after another.
+-- The first bytes of a queue, copied one slice after another.
 use Rattle.std.proofs.Common.{◌≡◌, ℕ, zero, suc, ◌+◌, ◌-◌, ◌<◌, ◌≤◌, ◌&&◌, Bool, true, false, cond, min, List, [], ◌∷◌}
 use Rattle.std.proofs.Common.{◌++◌, length, get_or, map, take, drop, refl, sym, ap, subst, ◌∙◌, arith, length-append}
 use Rattle.std.specs.List.{take_while, list_all}
@@ -39,7 +39,7 @@ length-slice_bytes {s} x h =
     length-take-le (x.from + x.len - x.from) (drop x.from (arena.bytes_of s.arena x.hold.buf))
     (omega (arith, length-drop x.from (arena.bytes_of s.arena x.hold.buf))) ∙ size
 
--- How many bytes the domain may see.
+-- The number of bytes that the domain may read.
 
 named : (ps : List Pool) (d : ℕ) (x : Slice) (js : List ℕ) → names_in ps x.hold.pool d ≡ true
     → list_all (may_see ps d) (map (place_in x) js) ≡ true
@@ -99,7 +99,7 @@ module _ (ps : List Pool) (d : ℕ) (xs : List Slice) (i left : ℕ) (x : Slice)
       ∙ ap (λ k. k + length (take_while (may_see ps d) (take (left - length (slice_places x)) after))) count
       ∙ ap (λ k. len + length (take_while (may_see ps d) (take k after))) rest
 
--- What was copied.
+-- The bytes that were copied.
 
 abbrev pub all_bytes : Stored → List Slice → List ℕ
 all_bytes s xs = bytes_of (text_of s xs)
@@ -128,7 +128,7 @@ begins s xs i x h e readable =
     ∙ ap (λ w. w ++ all_bytes s rest) (ap bytes_of (text_of-slice s x readable)
     ∙ bytes_of-labelled x.hold.pool (slice_bytes s x))
 
--- n bytes before the i-th slice, and len bytes of it
+-- n bytes before the i-th slice, and `len` bytes of it
 more_bytes : (s : Stored) (xs : List Slice) (i n len : ℕ) (x : Slice) → i < length xs → x ≡ get_or xs i x
     → IsReadable s x → n ≡ byte_len (take i xs) → len ≤ x.len
     → take (n + len) (all_bytes s xs) ≡ take n (all_bytes s xs) ++ take len (slice_bytes s x)
@@ -140,7 +140,7 @@ more_bytes s xs i n len x h e readable before within =
     (take-append-le len (slice_bytes s x) (all_bytes s (drop (i + 1) xs))
     (omega (arith, length-slice_bytes x readable)))
 
--- bytes put behind those that are there
+-- bytes are written after those that are already there
 put_more : (all old into piece : List ℕ) (at : ℕ) → at ≤ length all → into ≡ take at all ++ drop at old
     → take (at + length piece) all ≡ take at all ++ piece
     → take at into ++ piece ++ drop (at + length piece) into ≡ take (at + length piece) all

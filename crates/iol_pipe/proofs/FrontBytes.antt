@@ -1,4 +1,4 @@
--- What is read of a queue, of what was given and of what is left, whatever is read at its places.
+-- The bytes of a queue, of its front and of the rest, for any reading of places.
 use Rattle.std.proofs.Common.{◌≡◌, ℕ, ◌+◌, cond, List, [], ◌∷◌, map, length, take, drop, Some, refl, sym, ap, ◌∙◌}
 use Rattle.std.specs.List.{take_while, prefix_len, slice_get}
 use Rattle.std.specs.Option.{option_map}
@@ -11,7 +11,7 @@ use Rattle.iol_hold.specs.Layout.{read, KeepsPools}
 use Rattle.iol_hold.proofs.AtPlaces.{length-read, read_rest}
 use Rattle.iol_pipe.specs.Queue.{first_pool, may_see}
 
--- as many of them may be read as of the places
+-- the readable prefix of the bytes is as long as that of the places
 prefix_len-read : (f : Place → ℕ × ℕ) → KeepsPools f → (ps : List Pool) (d : ℕ) (qs : List Place)
     → prefix_len (λ b. names_in ps b.1 d) (map f qs) ≡ prefix_len (may_see ps d) qs
 prefix_len-read f keeps ps d [] = refl
@@ -28,7 +28,7 @@ read_given f keeps given old ps d n e =
     ∙ ap (λ k. take k (map f first)) (sym (prefix_len-read f keeps ps d first))
     ∙ ap (admitted (λ p. names_in ps p d)) (sym (take-map f n (places old)))
 
--- what is left after it
+-- the bytes left after the front
 pub read_left : (f : Place → ℕ × ℕ) → KeepsPools f → (given new old : List Slice) (ps : List Pool) (d : ℕ) (n : ℕ)
     → places given ≡ take_while (may_see ps d) (take n (places old)) → places new ≡ drop (byte_len given) (places old)
     → read f new ≡ drop (length (admitted (λ p. names_in ps p d) (take n (read f old)))) (read f old)

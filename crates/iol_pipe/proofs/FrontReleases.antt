@@ -15,7 +15,7 @@ use Rattle.iol_hold.proofs.ReadSlices.{readable_first, readable_later, readable_
 use Rattle.iol_hold.proofs.SlicePlaces.{length-slice_places}
 use Rattle.iol_pipe.proofs.Prefixes.{cut_rest}
 
--- the first slice, and more after it
+-- the first slice is released, whole
 pub drop_first : (x : Slice) (rest queue : List Slice) (n : ℕ) → queue ≡ x ∷ rest → x.len ≤ n
     → drop (n - x.len) (places rest) ≡ drop n (places queue)
 drop_first x rest queue n e h =
@@ -24,7 +24,7 @@ drop_first x rest queue n e h =
     ∙ ap (λ k. drop k (slice_places x ++ places rest)) long
     ∙ ap (λ xs. drop n (places xs)) (sym e)
 
--- a part of the first slice, of which b is the rest
+-- a part of the first slice is released, and b is its rest
 pub drop_part : (x b : Slice) (rest queue new : List Slice) (n : ℕ) → queue ≡ x ∷ rest → new ≡ b ∷ rest → n < x.len
     → slice_places b ≡ slice_range (slice_places x) n x.len → places new ≡ drop n (places queue)
 drop_part x b rest queue new n e f h cut =
@@ -32,7 +32,7 @@ drop_part x b rest queue new n e f h cut =
     ∙ sym (drop-append-le n (slice_places x) (places rest) (omega (arith, length-slice_places x)))
     ∙ ap (λ xs. drop n (places xs)) (sym e)
 
--- one more hold is given up, the first
+-- one more hold is released: the first
 pub moves_first : {a b c : Stored} {xs : List BufId} {y : BufId} (ys : List BufId) → Moves a b xs (y ∷ ys)
     → Moves b c (y ∷ []) [] → Moves a c xs ys
 moves_first {y = y} ys m n = record {

@@ -17,7 +17,7 @@ use Rattle.iol_pipe.specs.Queue.{TakesFirst, first_parts, names_given}
 use Rattle.iol_pipe.proofs.Prefixes.{take-append, take_while_step, take_while_none}
 use Rattle.iol_pipe.proofs.SharedHolds.{shares_start, shares_moved}
 
--- lists one after another
+-- lists, one after another
 joined : {A : Type 0} → List (List A) → List A
 joined ps = flat_map (λ p. p) ps
 
@@ -38,21 +38,21 @@ unfolding joined
 joined-places [] = refl
 joined-places (x ∷ xs) = ap (λ t. slice_places x ++ t) (joined-places xs)
 
--- they have the first places
+-- slices that are the first parts have the first places
 pub places-first_parts : (given old : List Slice) (n : ℕ)
     → map slice_places given ≡ first_parts n (map slice_places old) → places given ≡ take n (places old)
 places-first_parts given old n e =
     sym (joined-places given) ∙ ap joined e ∙ joined-first_parts n (map slice_places old)
     ∙ ap (take n) (joined-places old)
 
--- none of nothing, and none of anything
+-- Zero elements have no parts, whatever the lists.
 
 pub first_parts-zero : {A : Type 0} (n : ℕ) (ps : List (List A)) → n ≡ 0 → first_parts n ps ≡ []
 first_parts-zero n [] e = refl
 first_parts-zero zero (p ∷ ps) e = refl
 first_parts-zero (suc n) (p ∷ ps) e = absurd (omega arith)
 
--- none of the slices from the i-th on, where there are no more
+-- there are no parts after the last slice
 pub no_parts : (n i : ℕ) (xs : List Slice) → length xs ≤ i → first_parts n (map slice_places (drop i xs)) ≡ []
 no_parts n i xs end = at_drop_all (λ ys. first_parts n (map slice_places ys)) xs i end
 
@@ -67,7 +67,7 @@ first_parts-whole x xs (suc n) h =
     (take_all (suc n) (slice_places x) (omega (arith, long)))
     ∙ ap (λ k. slice_places x ∷ first_parts (suc n - k) (map slice_places xs)) long
 
--- the first of the i-th slice and those after it
+-- a part of the i-th slice, and the first parts of those after it
 pub first_parts-step : (xs : List Slice) (i n : ℕ) (x a : Slice) → i < length xs → x ≡ get_or xs i x → 0 < n
     → slice_places a ≡ take n (slice_places x) → first_parts n (map slice_places (drop i xs)) ≡ slice_places a
     ∷ first_parts (n - a.len) (map slice_places (drop (i + 1) xs))
@@ -87,7 +87,7 @@ first_parts-step xs i (suc n) x a h e some part =
     ∙ ap (λ p. p ∷ first_parts (suc n - length (slice_places x)) after) (sym part)
     ∙ ap (λ k. slice_places a ∷ first_parts k after) rest
 
--- a part of one slice, x, of which another is the rest
+-- A part of the first slice, x.
 
 pub first_parts-cut : (x a : Slice) (xs ys : List Slice) (n : ℕ) → n < x.len → 0 < n
     → slice_places a ≡ take n (slice_places x) → a.len ≡ n → first_parts n (map slice_places (x ∷ xs)) ≡ slice_places a
@@ -107,7 +107,7 @@ first_parts-over : {A : Type 0} (p : List A) (ps : List (List A)) (n : ℕ) → 
 first_parts-over p ps zero some h = absurd (omega (arith, some, h))
 first_parts-over p ps (suc n) some h = ap (λ q. q ∷ first_parts (suc n - length p) ps) (take_all (suc n) p h)
 
--- the first of the first parts
+-- the first m of the first n elements, in parts
 first_parts-first : {A : Type 0} (m n : ℕ) (ps : List (List A)) → m ≤ n
     → first_parts m (first_parts n ps) ≡ first_parts m ps
 first_parts-first m n [] h = refl
@@ -134,7 +134,7 @@ first_parts-all (x ∷ xs) qs =
     (let rest : byte_len (x ∷ xs) - length (slice_places x) ≡ byte_len xs = omega (arith, long, all) in rest)
     ∙ ap (λ t. slice_places x ∷ t) (first_parts-all xs qs)
 
--- slices that are the first of the first n bytes of a queue are the first of the queue
+-- slices that begin the first n bytes of a queue, in parts, begin the queue
 parts_first : (n : ℕ) (old out : List Slice) (qs : List (List Place)) → byte_len out ≤ n
     → map slice_places out ++ qs ≡ first_parts n (map slice_places old)
     → map slice_places out ≡ first_parts (byte_len out) (map slice_places old)
@@ -143,7 +143,7 @@ parts_first n old out qs h e =
     ∙ ap (first_parts (byte_len out)) e
     ∙ first_parts-first (byte_len out) n (map slice_places old) h
 
--- What was taken off so far: of all, and of what is left.
+-- The slices taken so far, and the first parts of the rest.
 
 pub record IsCutSoFar (n left : ℕ) (old out queue : List Slice) : Type 0 where
   pub parts : map slice_places out ++ first_parts left (map slice_places queue) ≡ first_parts n (map slice_places old)
@@ -161,7 +161,7 @@ cut_more n left old out moved queue after x c pushed first =
           ∙ c.parts;
     }
 
--- nothing more is wanted, or nothing is left
+-- no more bytes are requested, or none is left
 pub cut_end : (n left : ℕ) (old out queue : List Slice) → IsCutSoFar n left old out queue
     → first_parts left (map slice_places queue) ≡ [] → map slice_places out ≡ first_parts n (map slice_places old)
 cut_end n left old out queue c none = sym (append-nil (map slice_places out))
@@ -170,7 +170,7 @@ cut_end n left old out queue c none = sym (append-nil (map slice_places out))
 pub length-push : (out moved : List Slice) (x : Slice) → moved ≡ out ++ x ∷ [] → length moved ≡ length out + 1
 length-push out moved x pushed = omega (arith, ap length pushed, length-append out (x ∷ []))
 
--- What was taken off a queue so far: at most n bytes, of which `left` are still wanted.
+-- The slices that were taken from a queue so far: at most n bytes, of which `left` are still requested.
 pub record IsTakenSoFar (s t : Stored) (old out queue : List Slice) (n left : ℕ) (d : Option ℕ) : Type 0 where
   pub taken : places out ++ take_while (λ (p : Place). names_given s.pools d p.pool) (take left (places queue))
       ≡ take_while (λ (p : Place). names_given s.pools d p.pool) (take n (places old))
@@ -191,7 +191,7 @@ taken_none s old out n d none = record {
   shares = shares_start s old out none;
 }
 
--- no more is taken
+-- no further bytes are taken
 pub taken_end : (s t : Stored) (old out queue : List Slice) (n left : ℕ) (d : Option ℕ)
     → IsTakenSoFar s t old out queue n left d → length out + length queue ≤ length old + 1
     → take_while (λ (p : Place). names_given s.pools d p.pool) (take left (places queue)) ≡ []
@@ -207,7 +207,7 @@ taken_end s t old out queue n left d so_far few none no_parts = record {
   shares = so_far.shares;
 }
 
--- since no more is wanted
+-- because no more are requested
 pub taken_all : (s t : Stored) (old out queue : List Slice) (n left : ℕ) (d : Option ℕ)
     → IsTakenSoFar s t old out queue n left d → length out + length queue ≤ length old + 1 → left ≡ 0
     → TakesFirst s t old out queue n d
@@ -216,7 +216,7 @@ taken_all s t old out queue n left d so_far few none =
     (ap (λ k. take_while (λ (p : Place). names_given s.pools d p.pool) (take k (places queue))) none)
     (λ all. first_parts-zero left (map slice_places queue) none)
 
--- since none is left
+-- because none are left
 pub taken_empty : (s t : Stored) (old out queue : List Slice) (n left : ℕ) (d : Option ℕ)
     → IsTakenSoFar s t old out queue n left d → length out + length queue ≤ length old + 1 → (0 < length queue → ⊥)
     → TakesFirst s t old out queue n d

@@ -21,7 +21,7 @@ slice_begins x = begins x.from x.len x.some
     begins i (suc n) h = let e : n ≡ suc n - 1 = omega arith in
         ap (λ k. place_in x i ∷ row x.hold.pool x.hold.buf (i + 1) k) e
 
--- a slice in two, before others
+-- a slice divided in two, before others
 pub split_first : (x a b : Slice) (k : ℕ) (rest : List Slice) → slice_places a ≡ take k (slice_places x)
     → slice_places b ≡ drop k (slice_places x) → slice_places a ++ places (b ∷ rest) ≡ places (x ∷ rest)
 split_first x a b k rest first after =
@@ -36,7 +36,7 @@ first_pool-is (y ∷ ys) x h e =
     ap (λ (z : Slice). Some z.hold.pool) e ∙ ap (λ t. option_map (λ (p : Place). p.pool) (slice_get (t ++ places ys) 0))
     (sym (slice_begins y))
 
--- Of the first n places of a list and others.
+-- The first n places of a list and others.
 
 pub take-append : {A : Type 0} (a r : List A) (n : ℕ) → take n (a ++ r) ≡ take n a ++ take (n - length a) r
 take-append {A} [] r n =
@@ -48,7 +48,7 @@ take-append (x ∷ a) r (suc n) =
     let e : n - length a ≡ suc n - suc (length a) = omega arith in
     ap (λ t. x ∷ t) (take-append a r n ∙ ap (λ k. take n a ++ take k r) e)
 
--- of the i-th slice and those after it, the first left bytes: those that the slice has, and those after it
+-- the first `left` bytes from the i-th slice on: those of this slice, and those after it
 pub take_step : (xs : List Slice) (i left : ℕ) (x a : Slice) → i < length xs → x ≡ get_or xs i x
     → slice_places a ≡ take left (slice_places x) → take left (places (drop i xs)) ≡ slice_places a
     ++ take (left - a.len) (places (drop (i + 1) xs))
@@ -68,7 +68,7 @@ take_step xs i left x a h e part =
     ∙ ap (λ t. t ++ take (left - length (slice_places x)) r) (sym part)
     ∙ ap (λ k. slice_places a ++ take k r) long
 
--- Places as long as their pools are among these.
+-- Places up to the first whose pool fails a test.
 
 abbrev at_pool : (ℕ → Bool) → Place → Bool
 at_pool f p = f p.pool
@@ -81,7 +81,7 @@ passes f x (j ∷ js) t listed =
     ∙ ap (λ b. cond b (place_in x j ∷ take_while (at_pool f) (map (place_in x) js ++ t)) []) listed
     ∙ ap (λ u. place_in x j ∷ u) (passes f x js t listed)
 
--- a slice whose pool is one of these, before others
+-- a slice whose pool passes, before others
 pub take_while_step : (f : ℕ → Bool) (x : Slice) (left : ℕ) (qs : List Place) (rest : List Slice)
     → slice_places x ++ places rest ≡ qs → x.len ≤ left → f x.hold.pool ≡ true
     → take_while (at_pool f) (take left qs) ≡ slice_places x
@@ -95,7 +95,7 @@ take_while_step f x left qs rest whole h listed =
     ∙ passes f x (range_with_len x.from x.len) (take (left - length (slice_places x)) (places rest)) listed
     ∙ ap (λ k. slice_places x ++ take_while (at_pool f) (take (left - k) (places rest))) long
 
--- the first slice's pool is none of these
+-- the pool of the first slice fails
 pub take_while_none : (f : ℕ → Bool) (xs : List Slice) (x : Slice) (left : ℕ) → 0 < length xs → x ≡ get_or xs 0 x
     → 0 < left → f x.hold.pool ≡ false → take_while (at_pool f) (take left (places xs)) ≡ []
 take_while_none f [] x left h e some barred = absurd (omega arith)
@@ -108,7 +108,7 @@ take_while_none f (y ∷ ys) x (suc left) h e some barred =
     ∙ take_while-cons (at_pool f) p (take left r)
     ∙ ap (λ b. cond b (p ∷ take_while (at_pool f) (take left r)) []) first
 
--- Of a slice that is cut.
+-- A slice that is cut.
 
 pub cut_first : (x y a : Slice) (left k : ℕ) → slice_places y ≡ slice_places x → k ≡ min x.len left
     → slice_places a ≡ slice_range (slice_places y) 0 k → slice_places a ≡ take left (slice_places x)

@@ -39,7 +39,7 @@ use Rattle.iol_pipe.specs.declared.arrive.Arrived.{Arrived}
 use Rattle.iol_pipe.proofs.PartCounts.{few_made, parts_few}
 use Rattle.iol_pipe.proofs.Wholes.{length_added}
 
--- some bytes, at most a page of them
+-- at least one byte, and at most a page of them, need one page
 pub one_page : (n : ℕ) → 0 < n → n ≤ 4096 → pages_for n ≡ 1
 unfolding pages_for
 one_page n some few = omega (arith, some, few)
@@ -82,7 +82,8 @@ is_free Pending e = absurd (cc)
 is_free (Head n) e = absurd (cc)
 is_free (Tail p) e = absurd (cc)
 
--- From before the pages were taken, s, over their filling, u, and a writing of w, to after it, t.
+-- s is the store before the pages were reserved, u with the pages reserved, v after the bytes w were written, and t
+-- after publication.
 module _ (s u t : Stored) (parts : List Part) (pool n : ℕ) (w : List ℕ)
     (fills : Fills s u parts) (pages : part_pages parts ≡ lowest_of s pool n)
     (others : IsSameBut (part_pages parts) s.arena u.arena) (apart : AreApart 0 parts) (some : 0 < length parts)
@@ -114,7 +115,7 @@ module _ (s u t : Stored) (parts : List Part) (pool n : ℕ) (w : List ℕ)
       subst (λ l. IsSameBut l s.arena t.arena) pages
       (same_but_trans others (same_but_trans (same_but_entries (part_pages parts) refl) after))
 
-  -- len bytes were published
+  -- `len` bytes were published
   pub read_made : (left after : Option (List ℕ)) (holds : List Buffer) (len : ℕ) → 0 < len → len ≤ n → len ≤ length w
       → length (part_bytes u.arena first) ≡ part_room first
       → Consumes left after (take len w) → Publishes v t parts (held_bufs holds) → IsTidy t
@@ -157,7 +158,7 @@ module _ (s u t : Stored) (parts : List Part) (pool n : ℕ) (w : List ℕ)
         pools = publishes.pools ∙ written.pools;
       }
 
-  -- none was
+  -- no byte was published
   pub none_made : (left after : Option (List ℕ)) → Consumes left after [] → Publishes v t parts [] → IsTidy t
       → IsUnraised v.arena t.arena → IsSameBut (part_pages parts) v.arena t.arena → AreUsable t.arena (part_pages parts)
       → MakesRead left after s t [] pool 0
@@ -199,7 +200,7 @@ module _ (s u t : Stored) (parts : List Part) (pool n : ℕ) (w : List ℕ)
         pools = pools;
       }
 
--- a read that had room, under another name of the store after it
+-- a read that had room, for an equal store after it
 pub reads_once : {R : Type 0} {left : R → Option (List ℕ)} {reader after : R} {s : Stored} {pool n : ℕ}
     {x : Option (List Buffer) × Arrived} (t r : Stored)
     → MayRead s pool n → has_room s pool n ≡ true → MakesRead (left reader) (left after) s t (listed x.0) pool x.1.taken
@@ -220,7 +221,7 @@ pub home_as : (holds : List Buffer) (p q : ℕ) → p ≡ q → All (λ (h : Buf
     → All (λ (h : Buffer). h.pool ≡ q) holds
 home_as holds p q e h = subst (λ k. All (λ (h : Buffer). h.pool ≡ k) holds) e h
 
--- and the queue has them
+-- The queue gets the bytes that were read.
 module _ (left after : Option (List ℕ)) (s t : Stored) (old new : List Slice) (holds : List Buffer) (pool n : ℕ)
     (adds : AddsWhole t old new holds) (made : MakesRead left after s t holds pool n) where
   pub length_read : byte_len new ≡ byte_len old + n

@@ -10,7 +10,7 @@ use Rattle.iol_agg.specs.Pours.{AreShareable}
 use Rattle.iol_hold.proofs.Counts.{tally-append, tally_one, tally_none, same_self, bufs-push, bufs-take_more, tally-at}
 use Rattle.iol_hold.proofs.Moves.{shares_none, shares_trans}
 
--- the same holds, with some that are both taken and given
+-- the same holds, with others that are both released and made
 pub shares_as : {s t : Stored} {xs ys zs ws : List BufId} → Shares s t xs ys
     → ((b : BufId) → tally b ws + tally b xs ≡ tally b zs + tally b ys) → Shares s t zs ws
 shares_as m e = record {
@@ -20,7 +20,7 @@ shares_as m e = record {
   tidy = m.tidy;
 }
 
--- Of slices whose first i were shared.
+-- Slices of which the first i were shared.
 
 pub next_held : {s t : Stored} (xs : List Slice) (i : ℕ) (x : Slice) → i < length xs → x ≡ get_or xs i x
     → Covers s (bufs_of xs) → Shares s t [] (bufs_of (take i xs)) → 0 < count_of t x.hold.buf
@@ -38,7 +38,7 @@ pub shares_next : {s t u : Stored} (xs : List Slice) (i : ℕ) (x : Slice) → i
     → Shares s t [] (bufs_of (take i xs)) → Shares t u [] (x.hold.buf ∷ []) → Shares s u [] (bufs_of (take (i + 1) xs))
 shares_next {s = s} {u = u} xs i x h e m n = subst (Shares s u []) (sym (bufs-take_more xs i x h e)) (shares_trans m n)
 
--- a part of the next slice comes to the queue
+-- a part of the next slice is added to the queue
 pub bufs_next : (xs : List Slice) (i : ℕ) (x part : Slice) (old queue new : List Slice) → i < length xs
     → x ≡ get_or xs i x → part.hold ≡ x.hold → new ≡ queue ++ part ∷ []
     → bufs_of queue ≡ bufs_of old ++ bufs_of (take i xs) → bufs_of new ≡ bufs_of old ++ bufs_of (take (i + 1) xs)
@@ -49,13 +49,13 @@ bufs_next xs i x part old queue new h e hold pushed so_far =
     ∙ ap (λ b. bufs_of old ++ (bufs_of (take i xs) ++ b ∷ [])) (ap (λ h. h.buf) hold)
     ∙ ap (λ t. bufs_of old ++ t) (sym (bufs-take_more xs i x h e))
 
--- what the queue has more is what was shared
+-- the slices that were added to the queue are those that were shared
 pub shares_into : {s t : Stored} (old new : List Slice) (bs : List BufId) → bufs_of new ≡ bufs_of old ++ bs
     → Shares s t [] bs → Shares s t (bufs_of old) (bufs_of new)
 shares_into old new bs e m =
     shares_as m (λ b. omega (arith, tally_none b, ap (tally b) e, tally-append b (bufs_of old) bs))
 
--- Of the first slice.
+-- The first slice.
 
 pub first_tally : (old rest : List Slice) (x : Slice) (b : BufId) → old ≡ x ∷ rest
     → tally b (bufs_of old) ≡ same b x.hold.buf + tally b (bufs_of rest)
@@ -70,7 +70,7 @@ cons_tally : (x b : BufId) (xs : List BufId) → tally b (x ∷ xs) ≡ same b x
 unfolding tally
 cons_tally x b xs = omega arith
 
--- it is split, and its buffer is held once more
+-- it is split, and its buffer gets one more hold
 pub shares_split : {s t : Stored} (x part after : Slice) (old new rest : List Slice) → old ≡ x ∷ rest
     → new ≡ after ∷ rest → part.hold ≡ x.hold → after.hold ≡ x.hold → Shares s t [] (x.hold.buf ∷ [])
     → Shares s t (bufs_of old) (part.hold.buf ∷ bufs_of new)
@@ -85,7 +85,7 @@ shares_split x part after old new rest e f hold also m = shares_as m (λ b. omeg
   ap (λ h. same b h.buf) also,
 ))
 
--- Of slices that go from the queue to others.
+-- Slices that move from the queue to another list.
 
 -- there are none at first
 pub none_tally : (out : List Slice) (b : BufId) → out ≡ [] → tally b (bufs_of out) ≡ 0
@@ -135,7 +135,7 @@ pub fewer_moved : (old out queue moved rest : List Slice) (x : Slice) (b : BufId
     → tally b (bufs_of moved) + tally b (bufs_of rest) ≤ tally b (bufs_of old)
 fewer_moved old out queue moved rest x b e few split = omega (arith, moved_tally out moved x b e, few, split)
 
--- what is left is covered
+-- the rest of the queue can be shared
 pub rest_shared : {s t : Stored} (old out queue : List Slice) → AreShareable s (bufs_of old)
     → ((b : BufId) → tally b (bufs_of out) + tally b (bufs_of queue) ≤ tally b (bufs_of old))
     → Shares s t (bufs_of old) (bufs_of out ++ bufs_of queue) → AreShareable t (bufs_of queue)

@@ -1,4 +1,4 @@
--- The texts of a queue, of what came in and of what was given, whatever the arena.
+-- The texts of a queue, of the bytes added and of its front, for any arena.
 use Rattle.std.proofs.Common.{◌≡◌, ℕ, List, ◌++◌, length, take, drop}
 use Rattle.std.specs.List.{take_while, prefix_len, slice_get}
 use Rattle.std.specs.Option.{option_map}
@@ -38,7 +38,7 @@ pub text_given : (s : Stored) (given old : List Slice) (ps : List Pool) (d : ℕ
     → text_of s given ≡ admitted (λ p. names_in ps p d) (take n (text_of s old))
 text_given s given old ps d n e = read_given (byte_at s) (keeps_bytes s) given old ps d n e
 
--- what is left after it
+-- the text left after the front
 pub text_left : (s : Stored) (given new old : List Slice) (ps : List Pool) (d : ℕ) (n : ℕ)
     → places given ≡ take_while (may_see ps d) (take n (places old)) → places new ≡ drop (byte_len given) (places old)
     → text_of s new ≡ drop (length (admitted (λ p. names_in ps p d) (take n (text_of s old)))) (text_of s old)

@@ -25,7 +25,7 @@ use Rattle.iol_agg.proofs.Wholes.{whole_readable, text_whole, whole_texts-one}
 use Rattle.iol_pipe.specs.NewBytes.{AddsBytes, AddsWhole}
 use Rattle.iol_pipe.proofs.PartCounts.{few_made}
 
--- some of the buffers have their slices, and these are left
+-- the slices of some of the buffers were added, and those of `left` are still to be added
 pub record WholeSoFar (s : Stored) (old now : List Slice) (left all : List Buffer) : Type 0 where
   pub slices : List Slice
   pub added : now ≡ old ++ slices
@@ -114,7 +114,7 @@ module _ (s t : Stored) (old new : List Slice) (pool : ℕ) (bytes : List ℕ) (
     pools = pools;
   }
 
--- no bytes make no buffer
+-- zero bytes make no buffer
 pub none_added : (s : Stored) (old : List Slice) (pool : ℕ) → AddsBytes s s old old pool []
 none_added s old pool = record {
   slices = [];

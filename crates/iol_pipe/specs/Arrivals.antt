@@ -48,9 +48,9 @@ pub record MakesRead (left after : Option (List ℕ)) (s t : Stored) (holds : Li
   pub reclaims : AllReclaimed s → AllReclaimed t
   pub pools : t.pools ≡ s.pools
 
--- What one read reports: at least one byte and at most `bound`; or no byte, since the reader is at its end or since the
--- read failed. `ended` says of the reader that it is at its end, where its remaining bytes are known. `failed` says of
--- the reader nothing: the contract of `Read` does not say when a read fails.
+-- The report of one read: at least one byte and at most `bound`; or no byte, since the reader is at its end or since
+-- the read failed. If `end` is reported, the reader is at its end, as far as its remaining bytes are known. `failed`
+-- says nothing about the reader: the contract of `Read` does not say when a read fails.
 pub record IsOneRead (bound : ℕ) (after : Option (List ℕ)) (a : Arrived) : Type 0 where
   pub most : a.taken ≤ bound
   pub some : IsFalse a.end → IsFalse a.failed → 0 < a.taken

@@ -63,7 +63,7 @@ pub record MayTakeFirst (s : Stored) (xs : List Slice) (most : ℕ) : Type 0 whe
   pub shared : AreShareable s (bufs_of xs)
 
 -- The first slice of a queue was taken off. If it was longer than `most`, only its first `most` bytes were, and its
--- buffer is referenced once more.
+-- buffer has one more reference.
 pub record TakesSlice (s t : Stored) (old new : List Slice) (most : ℕ) (x : Slice) : Type 0 where
   pub given : slice_places x ++ places new ≡ places old
   pub cut : first_parts most (map slice_places old) ≡ slice_places x ∷ first_parts (most - x.len) (map slice_places new)

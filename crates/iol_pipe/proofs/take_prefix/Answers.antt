@@ -6,7 +6,7 @@ use Rattle.iol_pipe.proofs.Parts.{length-push, taken_none, taken_all, taken_barr
 use Rattle.iol_pipe.proofs.SharedHolds.{none_tally, fewer_moved, rest_shared}
 use Rattle.iol_pipe.proofs.take_prefix.Goals as goal
 
--- what was asked of the pools now holds of those before
+-- the answer for the current pools is that for the pools before
 asked : (old now : List Pool) (p q : ℕ) (d : Option ℕ) (answer : Bool) → now ≡ old → q ≡ p
     → answer ≡ names_given now d q → names_given old d p ≡ answer
 asked old now p q d answer same first is = ap (λ ps. names_given ps d p) (sym same)
