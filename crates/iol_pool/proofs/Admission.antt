@@ -1,4 +1,4 @@
--- A pool whose list names a domain more is open or closed as it was, and has the chunks that it had.
+-- Admitting a domain to a pool changes neither its chunks nor whether it is closed.
 use Rattle.std.proofs.Common.{◌≡◌, inl, inr, ℕ, true, List, length, ap, refl, sym, ◌∙◌}
 use Rattle.std.proofs.lemmas.Bool.{cases_eq}
 use Rattle.iol_core.specs.Calls.Pools.{with_name}
@@ -8,7 +8,7 @@ use Rattle.iol_pool.specs.Pools.{Pool, pool_in, with_admitted}
 use Rattle.iol_pool.specs.Owners.{AreOwned}
 use Rattle.iol_pool.proofs.Owners.{length-with_numbered, owned_same, pool_in-other, pool_in-there}
 
--- what admitting does not change of a pool
+-- a field of pools that admitting does not change
 kept : {A : Type 0} (f : Pool → A) → ((x : Pool) (list : List ℕ) → f (record x { domains = list }) ≡ f x)
     → (ps : List Pool) (p d q : ℕ) → is_numbered ps p ≡ true → f (pool_in (with_admitted ps p d) q) ≡ f (pool_in ps q)
 unfolding with_admitted

@@ -10,7 +10,7 @@ use Rattle.iol_arena.specs.State.{State, chunk_count}
 use Rattle.iol_arena.specs.Chunks.{IsRising, IsRisingFrom, chunk_pages}
 use Rattle.iol_arena.proofs.Good.{bool_cases}
 
--- those of the first chunks, and of one chunk more
+-- the pages of the first chunks, and of one more chunk
 pub pages_more : (f : ℕ → Bool) (cs : List ℕ) (i c : ℕ) → i < length cs → c ≡ get_or cs i c
     → length (filter f (flat_map chunk_pages (take (i + 1) cs))) ≡ length (filter f (flat_map chunk_pages (take i cs)))
     + length (filter f (flat_map chunk_pages (c ∷ [])))
@@ -32,7 +32,7 @@ pages_length (c ∷ cs) =
       length-range_with_len (c * 16) 16,
     )
 
--- those of the first chunks are at most those of all
+-- the first chunks have at most as many such pages as all
 pub take_fewer : (f : ℕ → Bool) (cs : List ℕ) (k : ℕ)
     → length (filter f (flat_map chunk_pages (take k cs))) ≤ length (filter f (flat_map chunk_pages cs))
 take_fewer f cs k =
@@ -47,7 +47,7 @@ filter_few f [] = omega arith
 filter_few f (x ∷ xs) = let r = filter_few f xs in
     elim (bool_cases (f x)) [ inl e ↦ rw e (omega (arith, r)) | inr e ↦ rw e (omega (arith, r)) ]
 
--- a chunk has no more than sixteen
+-- a chunk has at most sixteen such pages
 pub pages_few : (f : ℕ → Bool) (c : ℕ) → length (filter f (flat_map chunk_pages (c ∷ []))) ≤ 16
 unfolding chunk_pages
 pages_few f c =
@@ -58,7 +58,7 @@ pages_few f c =
       length-range_with_len (c * 16) 16,
     )
 
--- rising numbers below n are at most so many
+-- rising numbers from `low` on and below n are at most n - low
 pub rising_few : (low n : ℕ) (xs : List ℕ) → IsRisingFrom low xs → All (λ c. c < n) xs → length xs ≤ n - low
 rising_few low n [] rising below = omega arith
 rising_few low n (x ∷ xs) rising below =
@@ -66,7 +66,7 @@ rising_few low n (x ∷ xs) rising below =
     let b : x < n = below 0 0 (omega arith) in
     omega (arith, rising.0, r, b)
 
--- rising chunks are at most as many as there are
+-- rising chunks of an arena are at most as many as it has, and so at most 256
 pub few_chunks : (s : State) (cs : List ℕ) (n : ℕ) → IsRising cs → All (λ k. k < chunk_count s) cs → n ≡ chunk_count s
     → n ≤ 256 → length cs ≤ 256
 few_chunks s cs n rising all is most = omega (arith, rising_few 0 (chunk_count s) cs rising all, is, most)

@@ -1,4 +1,4 @@
--- Each domain of a list once, built up.
+-- The distinct domains of a list, found one after another.
 use Rattle.std.proofs.Common.{◌≡◌, ℕ, ◌+◌, ◌<◌, ◌≤◌, ◌==◌, List, [], ◌∷◌, ◌++◌, length, take, drop, refl, sym, ap, ◌∙◌}
 use Rattle.std.proofs.Common.{subst, arith, true, false, get_or, set, length-append}
 use Rattle.std.specs.Prelude.{fold, if◌then◌else◌, min}

@@ -1,4 +1,4 @@
--- Pools by number, and whose each chunk is.
+-- Pools by number, and the pool of each chunk.
 use Rattle.std.proofs.Common.{◌≡◌, ◌⊎◌, inl, inr, ℕ, zero, suc, ◌+◌, ◌-◌, ◌<◌, ◌≤◌, Bool, true, false, not, List, []}
 use Rattle.std.proofs.Common.{◌∷◌, ◌++◌, drop, length, get_or, set, map, refl, sym, ap, ◌∙◌, subst, arith, length-set}
 use Rattle.std.proofs.Common.{length-append}
@@ -22,7 +22,7 @@ use Rattle.iol_pool.specs.Pools.{Pool, no_pool, pool_in, with_closed, with_empti
 use Rattle.iol_pool.specs.Pools.{goes_back, reclaimed, reclaimed_arena}
 use Rattle.iol_pool.specs.Owners.{AreOwned}
 
--- whether one of them is q
+-- whether q is one of them
 abbrev named : List ℕ → ℕ → Bool
 named cs q = list_any (λ d. d == q) cs
 
@@ -71,7 +71,7 @@ pool_in-before ps x q other = elim (cases_eq q 0) [
   ]
 ]
 
--- closing a pool leaves the others as they were
+-- closing a pool leaves the others unchanged
 pub pool_in-closed : (ps : List Pool) (p q : ℕ) → (q ≡ p → ⊥) → pool_in (with_closed ps p) q ≡ pool_in ps q
 unfolding with_closed
 pool_in-closed ps p q n = pool_in-other ps p q (record (pool_in ps p) { closed = true }) n
@@ -81,7 +81,7 @@ unfolding with_closed
 closed-closed ps p there =
     ap (λ (x : Pool). x.closed) (pool_in-there ps p (record (pool_in ps p) { closed = true }) there)
 
--- a closed pool has its chunks
+-- closing a pool changes no pool's chunks
 pub chunks-closed : (ps : List Pool) (p q : ℕ) → is_numbered ps p ≡ true
     → (pool_in (with_closed ps p) q).chunks ≡ (pool_in ps q).chunks
 unfolding with_closed
@@ -93,7 +93,7 @@ chunks-closed ps p q there = elim (cases_eq q p) [
   | inr n ↦ ap (λ (x : Pool). x.chunks) (pool_in-other ps p q (record (pool_in ps p) { closed = true }) n)
 ]
 
--- the chunks of another pool, when a pool is without its own
+-- emptying a pool leaves the chunks of the others unchanged
 pub chunks-emptied : (ps : List Pool) (p q : ℕ) → (q ≡ p → ⊥)
     → (pool_in (with_emptied ps p) q).chunks ≡ (pool_in ps q).chunks
 unfolding with_emptied
@@ -115,7 +115,7 @@ emptied ps p q c there h = elim (cases_eq q p) [
 pub length-all_returned : (taken : List Bool) (cs : List ℕ) → length (all_returned taken cs) ≡ length taken
 length-all_returned taken cs = length-map-range_with_len (λ c. get_or taken c true && not (named cs c)) 0 (length taken)
 
--- a number of no pool
+-- a change at an index past the last pool changes nothing
 set_past : (ps : List Pool) (i : ℕ) (x : Pool) → length ps ≤ i → set ps i x ≡ ps
 set_past [] i x h = refl
 set_past (y ∷ ps) zero x h = absurd (omega arith)
@@ -136,7 +136,7 @@ pool_in-nowhere ps p out = elim (cases_eq p 0) [
       get_or_past ps (p - 1) no_pool far in grind (arith, nat_tests, z, e))
 ]
 
--- chunks that are returned
+-- Chunks that are returned.
 
 returned_at : (taken : List Bool) (cs : List ℕ) (q : ℕ) (d : Bool) → q < length taken
     → get_or (all_returned taken cs) q d ≡ (get_or taken q true && not (named cs q))
@@ -179,7 +179,7 @@ returned_in : (taken : List Bool) (cs : List ℕ) (q : ℕ) → In cs q → q < 
 returned_in taken cs q h lt = returned_at taken cs q true lt ∙ ap (λ b. get_or taken q true && not b) (named_in cs q h)
     ∙ free (get_or taken q true)
 
--- chunks returned one after another
+-- Chunks that are returned one after another.
 pub all_returned-none : (taken : List Bool) → all_returned taken [] ≡ taken
 all_returned-none taken = same_lists (all_returned taken []) taken (length-all_returned taken []) (λ k d h.
     (let lt : k < length taken = omega (arith, h, length-all_returned taken []) in
@@ -215,7 +215,7 @@ returned_on taken cs i c h is = all_returned-more taken c (drop (i + 1) cs)
 pub returned_last : (taken : List Bool) (cs : List ℕ) (i : ℕ) → length cs ≤ i → all_returned taken (drop i cs) ≡ taken
 returned_last taken cs i h = ap (λ l. all_returned taken l) (drop_all i cs h) ∙ all_returned-none taken
 
--- what becomes of a pool that is settled
+-- A pool that is reclaimed.
 
 pub reclaimed-no : (s : State) (ps : List Pool) (p : ℕ) → goes_back s ps p ≡ false → reclaimed s ps p ≡ ps
 unfolding reclaimed
@@ -257,7 +257,7 @@ reclaimed_arena-nowhere s ps p out = elim (bool_cases (goes_back s ps p)) [
   | inr e ↦ reclaimed_arena-no s ps p e
 ]
 
--- settling a pool leaves the others as they were
+-- reclaiming a pool leaves the others unchanged
 pub pool_in-reclaimed : (s : State) (ps : List Pool) (p q : ℕ) → (q ≡ p → ⊥)
     → pool_in (reclaimed s ps p) q ≡ pool_in ps q
 unfolding with_emptied
@@ -267,7 +267,7 @@ pool_in-reclaimed s ps p q other = elim (bool_cases (goes_back s ps p)) [
   | inr e ↦ ap (λ (l : List Pool). pool_in l q) (reclaimed-no s ps p e)
 ]
 
--- a settled pool is closed as it was
+-- reclaiming a pool does not change which pools are closed
 pub closed-reclaimed : (s : State) (ps : List Pool) (p q : ℕ)
     → (pool_in (reclaimed s ps p) q).closed ≡ (pool_in ps q).closed
 unfolding with_emptied
@@ -285,7 +285,7 @@ closed-reclaimed s ps p q = elim (cases_eq q p) [
   ]
 ]
 
--- settling and closing change nothing but the chunks, and whether the pool is closed
+-- Emptying a pool changes only its chunks, and closing it only whether it is closed.
 pub map-emptied : {A : Type 0} (f : Pool → A) → ((x : Pool) (cs : List ℕ) → f (record x { chunks = cs }) ≡ f x)
     → (ps : List Pool) (p : ℕ) → map f (with_emptied ps p) ≡ map f ps
 unfolding with_emptied pool_in
@@ -324,7 +324,7 @@ is_numbered-reclaimed s ps p q = ap (λ n. nat_lt 0 q && nat_le q n) (length-rec
 pub is_numbered-closed : (ps : List Pool) (p q : ℕ) → is_numbered (with_closed ps p) q ≡ is_numbered ps q
 is_numbered-closed ps p q = ap (λ n. nat_lt 0 q && nat_le q n) (length-closed ps p)
 
--- settling moves no byte, and changes no page
+-- reclaiming a pool changes no memory and no page
 pub reclaimed_arena-same : (s : State) (ps : List Pool) (p : ℕ)
     → reclaimed_arena s ps p ≡ record {
       memory = s.memory;
@@ -393,7 +393,7 @@ chunk_count-reclaimed s ps p = elim (bool_cases (goes_back s ps p)) [
   | inr e ↦ ap (λ (t : State). length t.taken) (reclaimed_arena-no s ps p e)
 ]
 
--- Whose each chunk is.
+-- The pool of each chunk.
 
 pub pool_in-none : (p : ℕ) → pool_in (let l : List Pool = [] in l) p ≡ no_pool
 unfolding pool_in
@@ -410,7 +410,7 @@ owned_none s free = record {
   owner = λ c h is. (let no = free c h in cc (no, is));
 }
 
--- in an arena that gave out the same chunks
+-- an arena in which the same chunks are taken
 pub owned_stays : (s t : State) (ps : List Pool) → t.taken ≡ s.taken → AreOwned s ps → AreOwned t ps
 owned_stays s t ps same o = record {
   within = λ p c h. subst (λ (l : List Bool). c < length l) (sym same) (o.within p c h);
@@ -421,7 +421,7 @@ owned_stays s t ps same o = record {
       (subst (λ (l : List Bool). get_or l c true ≡ true) same is);
 }
 
--- by pools with the same chunks
+-- pools with the same chunks
 pub owned_same : (s : State) (ps qs : List Pool) → ((q : ℕ) → (pool_in qs q).chunks ≡ (pool_in ps q).chunks)
     → AreOwned s ps → AreOwned s qs
 owned_same s ps qs same o = record {
@@ -440,7 +440,7 @@ pub all_owned : (s : State) (ps : List Pool) (p : ℕ) → AreOwned s ps
 all_owned s ps p o =
     λ k d h. o.within p (get_or (pool_in ps p).chunks k d) (Contains-get_or (pool_in ps p).chunks k d h)
 
--- the chunks of a pool, as a list that is told to be theirs
+-- the chunks of a pool are in the arena, by any list that equals them
 pub within_chunks : (s : State) (ps : List Pool) (p : ℕ) (cs ds : List ℕ) → AreOwned s ps → cs ≡ ds
     → ds ≡ (pool_in ps p).chunks → All (λ k. k < chunk_count s) cs
 within_chunks s ps p cs ds o a b =
@@ -469,13 +469,13 @@ owned_reclaimed s ps p there o = record {
       (w.0, subst (λ l. Contains l c) (sym (chunks-emptied ps p w.0 other)) w.1);
 }
 
--- chunks taken for a new pool
+-- Chunks that a new pool takes.
 
 pub past_closed : (ps : List Pool) → (pool_in ps (length ps + 1)).closed ≡ true
 unfolding pool_in
 past_closed ps = let past = get_or_past ps (length ps + 1 - 1) no_pool (omega arith) in grind (arith, nat_tests, past)
 
--- there is no pool past the last
+-- the number after the last pool has no chunks
 pub nowhere : (ps : List Pool) (c : ℕ) → Contains (pool_in ps (length ps + 1)).chunks c → ⊥
 unfolding pool_in
 nowhere ps c h =

@@ -8,8 +8,8 @@ use Rattle.iol_pool.specs.Owners.{AreOwned}
 use Rattle.iol_pool.specs.Pools.{AddsPool, Pool, pool_in, reclaimed, reclaimed_arena}
 use Rattle.iol_pool.specs.declared.report.PoolReport.{PoolReport}
 
--- A pool of n chunks, the lowest free ones, was made for the domains of a list: its number is the next. Or nothing
--- changed, for want of room only where fewer chunks are free. Each chunk that is taken has just one pool.
+-- A pool of n chunks, the lowest free ones, was made for the domains of a list, under the next number. An error changes
+-- nothing, and `NoRoom` is returned only if fewer chunks are free. Each taken chunk has exactly one pool.
 pub record CreatesPool (s t : State) (old new : List Pool) (n : ℕ) (list : List ℕ) (r : Result ℕ Unfilled) :
     Type 0 where
   pub number : IfOk r (λ p. p ≡ length old + 1)
