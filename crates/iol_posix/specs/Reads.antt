@@ -10,8 +10,8 @@ use Rattle.iol_kernel.specs.KernelState.{machine_of}
 use Rattle.iol_kernel.specs.Prelude.{Copies, ReadsOut, Serves, state_of}
 use Rattle.iol_kernel.specs.declared.kernel.Kernel.{Kernel}
 
--- A read of at most `most` bytes by copying brought the number of bytes that it returns to the front of a memory, and
--- left the rest of the memory unchanged: the machine's step with an honest store, and the effect, by the descriptor's
+-- A read of at most `most` bytes by copying wrote its bytes to the front of a memory, returned their number, and left
+-- the rest of the memory unchanged: the machine's step with an honest store, and the effect, by the descriptor's
 -- object. A refusal leaves the memory unchanged, and a read that is not of a file is never refused for lack of memory.
 pub record ReadsInto {B : Type 0} (by fd most : ℕ) (memory filled : List ℕ) (disk : B → Disk) (backing after : B)
     (old : Kernel)
@@ -24,9 +24,8 @@ pub record ReadsInto {B : Type 0} (by fd most : ℕ) (memory filled : List ℕ) 
   pub rest : IfOk r (λ n. drop n filled ≡ drop n memory)
   pub err : OnErr r (filled ≡ memory)
 
--- A read of a queue by copying brought the number of bytes that it returns to the front of a memory, at most as many as
--- it has room for, and left the rest of the memory unchanged. A refusal leaves the memory unchanged, and is never for
--- lack of memory.
+-- A read of a queue by copying wrote its bytes to the front of a memory, as many as have room, returned their number,
+-- and left the rest of the memory unchanged. A refusal leaves the memory unchanged, and is never for lack of memory.
 pub record TakesOut (by fd : ℕ) (memory filled : List ℕ) (old : Kernel) (r : Result ℕ Refusal) (new : Kernel) :
     Type 0 where
   pub reads : ReadsOut by fd (length memory) (state_of old) (first_of filled r) (state_of new)
