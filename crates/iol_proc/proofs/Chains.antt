@@ -88,7 +88,7 @@ module _ {P : Type 0} (turns : TransitionRelation P) where
   run_chained w [] (r ∷ rs) after ran = absurd ran
   run_chained w (c ∷ cs) [] after ran = absurd ran
 
--- a store is as honest after events as before
+-- events do not change whether a store is honest
 pub honesty_kept : (old new : SystemState) → HasEvents old new → KeepsHonesty old new
 honesty_kept old new e = record { same = chain_honest old new e.events e.replies e.chain }
 

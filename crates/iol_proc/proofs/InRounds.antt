@@ -14,7 +14,7 @@ use Rattle.iol_proc.specs.Idle.{Went, RoundRun, counted, counted_over, yields_of
 use Rattle.iol_proc.specs.declared.process_slot.ProcessSlot.{ProcessSlot}
 
 module _ {M P : Type 0} (machine : Machine M) (turns : TransitionRelation P) where
-  -- one turn more
+  -- one more turn
   round_more : (w : WorldState M P) (i : ℕ) (ts : List Went) (mid : WorldState M P) (t : Went) (after : WorldState M P)
       → RoundRun machine turns w i ts mid
       → PlaceTurn machine turns mid ((i + length ts) % length mid.process_slots) t.0 t.1 after
@@ -33,7 +33,7 @@ module _ {M P : Type 0} (machine : Machine M) (turns : TransitionRelation P) whe
             (subst (λ (n : ℕ). PlaceTurn machine turns mid (n % length mid.process_slots) t.0 t.1 after) e turn),
       )
 
-  -- the same from the first turn on
+  -- likewise from the first turn on
   pub round_next : (w : WorldState M P) (ts : List Went) (mid : WorldState M P) (t : Went) (after : WorldState M P)
       (i k : ℕ)
       → RoundRun machine turns w 0 ts mid → length ts ≡ i → k ≡ length mid.process_slots
@@ -42,7 +42,7 @@ module _ {M P : Type 0} (machine : Machine M) (turns : TransitionRelation P) whe
       let e : i % k ≡ (0 + length ts) % length mid.process_slots = rw (zero-add, count, size) in
       round_more w 0 ts mid t after ran (subst (λ (n : ℕ). PlaceTurn machine turns mid n t.0 t.1 after) e turn)
 
-  -- a turn leaves the domains as they are
+  -- a turn does not change the domain of a process
   same_domain : (m : M) (process_slot : ProcessSlot P) (yields : Bool) (r : Reply) (after : M) (next : ProcessSlot P)
       → ProcessSlotTurn machine turns m process_slot yields r after next → next.by ≡ process_slot.by
   same_domain m process_slot yields r after next turn =
@@ -58,7 +58,7 @@ module _ {M P : Type 0} (machine : Machine M) (turns : TransitionRelation P) whe
       (ap (λ (s : ProcessSlot P). s.by) (get_or_from_slice_get w.process_slots place t.process_slot t.process_slot
       t.sits)))
 
-  -- the domain at a place
+  -- the domain at an index
   place_domain : (xs : List (ProcessSlot P)) (k : ℕ) (x : ProcessSlot P) → slice_get xs k ≡ Some x
       → slice_index (domains_of xs) k ≡ x.by
   place_domain [] k x e = absurd (cc)
@@ -86,7 +86,7 @@ module _ {M P : Type 0} (machine : Machine M) (turns : TransitionRelation P) whe
             (same_domains w (i % length w.process_slots) t.0 t.1 ran.0 ran.1) (rounds_run ran.0 (suc i) ts after ran.2),
       )
 
--- one turn more counted
+-- one more turn is counted
 counted_more : (ns : List ℕ) (i : ℕ) (ts : List Went) (t : Went)
     → counted_over ns i (ts ++ t ∷ []) ≡ counted (counted_over ns i ts)
     ((i + length ts) % length (counted_over ns i ts)) t
@@ -105,7 +105,7 @@ counted_next n ts t now next i k was count size one =
     ∙ (ap (λ (m : List ℕ). counted m (i % k) t) was
     ∙ (ap (λ (n : ℕ). counted (counted_over ns 0 ts) n t) (sym e) ∙ sym (counted_more ns 0 ts t)))
 
--- no moment up to now was idle
+-- no moment so far was idle
 pub first_next : (n : ℕ) (ts : List Went) (t : Went)
     → ((j : ℕ) → j < length ts → is_idle (yields_of n (take j ts)) ≡ false) → is_idle (yields_of n ts) ≡ false → (j : ℕ)
     → j < length (ts ++ t ∷ []) → is_idle (yields_of n (take j (ts ++ t ∷ []))) ≡ false

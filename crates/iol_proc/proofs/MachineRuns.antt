@@ -18,7 +18,7 @@ abbrev IsHonest : SystemState → Type 0
 IsHonest s = s.disk.honest ≡ true
 
 module _ {P : Type 0} (turns : TransitionRelation P) where
-  -- the machine that copies goes on so, and the store stays honest
+  -- Q holds, and the store is still honest
   abbrev Both : SystemState → Type 0 → Type 0
   Both after Q = Q × IsHonest after
 

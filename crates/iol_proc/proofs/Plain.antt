@@ -22,7 +22,7 @@ step_plain : (s t : State) (by : ℕ) (c : Call) (r : Reply) → IsCopyFreeCall 
 step_plain s t by c (reply.Refused x) copy_free step = tt
 step_plain s t by c r copy_free step = subst IsPlain (sym step.1) (answer_plain s by c copy_free)
 
--- so is a call of a system, over any store
+-- nor is the reply of a system, over any store
 pub promised_plain : (old new : SystemState) (by : ℕ) (c : Call) (r : Reply) → IsCopyFreeCall c
     → Promises old (event.Call by c) r new → IsPlain r
 promised_plain old new by c r copy_free p =

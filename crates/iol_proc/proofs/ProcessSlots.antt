@@ -10,12 +10,12 @@ use Rattle.std.proofs.lemmas.Bool.Decides.{nat_tests}
 use Rattle.iol_proc.specs.World.{domains_of, process_slot_of}
 use Rattle.iol_proc.specs.declared.process_slot.ProcessSlot.{ProcessSlot}
 
--- the domains of processes that are seated
+-- the domains of new process slots
 domains_of-process_slots : {P : Type 0} (ps : List (ℕ × P)) → domains_of (map process_slot_of ps) ≡ map (λ p. p.0) ps
 domains_of-process_slots [] = refl
 domains_of-process_slots (p ∷ ps) = ap (λ (l : List ℕ). p.0 ∷ l) (domains_of-process_slots ps)
 
--- what does not fall, and has nothing twice, rises
+-- a list that does not fall, and has no element twice, rises
 rises : {P : Type 0} (xs : List (ProcessSlot P)) → IsNonDecreasingBy (λ s. s.by) xs → IsDistinct nat_eq (domains_of xs)
     → IsStrictlyIncreasing (domains_of xs)
 unfolding IsDistinct

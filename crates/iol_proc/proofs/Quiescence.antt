@@ -1,4 +1,4 @@
--- A property that is preserved over turns in rounds holds of all processes once all are idle.
+-- A property that is preserved over turns in rounds holds for all processes once all are idle.
 use Rattle.std.proofs.Common.{◌≡◌, ◌%◌, ◌≤◌, ◌∙◌, ℕ, zero, suc, List, [], ◌∷◌, length, replicate, Some, Bool, true}
 use Rattle.std.proofs.Common.{false, slice_get, slice_set, slice_index, refl, ap, sym, subst, inl, inr, arith}
 use Rattle.std.proofs.Common.{length-set}
@@ -39,7 +39,7 @@ module _ {P : Type 0} (S : Claim P) (turns : TransitionRelation P) where
   at_place [] (s ∷ ss) m k process_slot h e = absurd h
   at_place (n ∷ ns) [] m k process_slot h e = absurd h
 
-  -- one process goes on, and is counted so
+  -- one process changes, with its count
   goes : (ns : List ℕ) (ss : List (ProcessSlot P)) (m : State) (k n : ℕ) (process_slot next : ProcessSlot P)
       → AreQuiescent S ns ss m → slice_get ss k ≡ Some process_slot → n ≤ 2 → S n next.by next.process next.last m
       → AreQuiescent S (slice_set ns k n) (slice_set ss k next) m
@@ -50,7 +50,7 @@ module _ {P : Type 0} (S : Claim P) (turns : TransitionRelation P) where
   goes [] (y ∷ ss) m k n process_slot next h e most s = absurd h
   goes (x ∷ ns) [] m k n process_slot next h e most s = absurd h
 
-  -- one process goes on, and is counted as before
+  -- one process changes, and its count stays
   stays : (ns : List ℕ) (ss : List (ProcessSlot P)) (m : State) (k : ℕ) (process_slot next : ProcessSlot P)
       → AreQuiescent S ns ss m → slice_get ss k ≡ Some process_slot
       → S (slice_index ns k) next.by next.process next.last m → AreQuiescent S ns (slice_set ss k next) m
@@ -66,7 +66,7 @@ module _ {P : Type 0} (S : Claim P) (turns : TransitionRelation P) where
   even [] (s ∷ ss) m h = absurd h
   even (n ∷ ns) [] m h = absurd h
 
-  -- a yield leaves the machine, and moves the process on
+  -- a yield leaves the machine unchanged, and the property holds for one more yield
   yield_comes : Quiesces S turns → (n by : ℕ) (p q : P) (l r : Reply) (m after : State) (t : Turn) → S n by p l m
       → turns.goes p l (readable_to m by) t q → Comes copying turns m by t true r after
       → (after ≡ m) × S (more_of_two n) by q r m
@@ -74,7 +74,7 @@ module _ {P : Type 0} (S : Claim P) (turns : TransitionRelation P) where
       (comes.2, subst (λ (x : Reply). S (more_of_two n) by q x m) (sym comes.1) (f.yields n by p q l m s goes))
   yield_comes f n by p q l r m after (turn.Make c) s goes comes = absurd (let no_yield : true ≡ false = comes.0 in cc)
 
-  -- a call that is answered WouldBlock leaves the machine, and keeps what holds of the process
+  -- a call with the reply WouldBlock leaves the machine unchanged, and the property still holds
   block_comes : Quiesces S turns → (n by : ℕ) (p q : P) (l : Reply) (m after : State) (t : Turn) → S n by p l m
       → turns.goes p l (readable_to m by) t q → Comes copying turns m by t false (Refused WouldBlock) after
       → (after ≡ m) × S n by q (Refused WouldBlock) m
@@ -138,7 +138,7 @@ module _ {P : Type 0} (S : Claim P) (turns : TransitionRelation P) where
       zeros f ns after.process_slots after.machine (even ns w.process_slots w.machine h
       ∙ (sym (length-set w.process_slots k t.next) ∙ sym (ap length t.others_stay)))
 
-  -- after turns in rounds each process is settled as often as it was counted
+  -- after turns in rounds the property holds for each process, by its number of yields
   pub quiescent_over : Quiesces S turns
       → (ns : List ℕ) (w : WorldState State P) (i : ℕ) (ts : List Went) (after : WorldState State P)
       → AreQuiescent S ns w.process_slots w.machine → RoundRun copying turns w i ts after
@@ -151,7 +151,7 @@ module _ {P : Type 0} (S : Claim P) (turns : TransitionRelation P) where
       (subst (λ (n : ℕ). PlaceTurn copying turns w (i % n) t.0 t.1 ran.0)
       (sym (even ns w.process_slots w.machine h)) ran.1)) ran.2
 
-  -- all have yielded twice
+  -- each process has yielded twice
   all_quiescent : (ns : List ℕ) (ss : List (ProcessSlot P)) (m : State) → AreQuiescent S ns ss m → is_idle ns ≡ true
       → AllQuiescent S ss m
   all_quiescent [] [] m h idle = tt
@@ -167,7 +167,7 @@ module _ {P : Type 0} (S : Claim P) (turns : TransitionRelation P) where
   first_zeros f [] m = tt
   first_zeros f (s ∷ ss) m = (omega arith, f.first s.by s.process s.last m, first_zeros f ss m)
 
-  -- where `until_idle` says true, each process is settled
+  -- if `until_idle` returns true, the property holds for each process
   pub quiescent_idle : Quiesces S turns → (w : WorldState State P) (most : ℕ) (after : WorldState State P)
       → Idles copying turns w most true after → AllQuiescent S after.process_slots after.machine
   quiescent_idle f w most after i =
@@ -175,7 +175,7 @@ module _ {P : Type 0} (S : Claim P) (turns : TransitionRelation P) where
       (quiescent_over f (replicate (length w.process_slots) 0) w 0 i.went after
       (first_zeros f w.process_slots w.machine) i.ran) (sym i.reported)
 
-  -- so is the one at each place
+  -- likewise for the process at an index
   one_quiescent : (ss : List (ProcessSlot P)) (m : State) (k : ℕ) (process_slot : ProcessSlot P) → AllQuiescent S ss m
       → slice_get ss k ≡ Some process_slot → S 2 process_slot.by process_slot.process process_slot.last m
   one_quiescent [] m k process_slot h e = absurd (cc)

@@ -1,4 +1,4 @@
--- A look has the machine's bytes, for every store under files; and the resulting turns.
+-- A look has the machine's bytes, for every store under the files; and the resulting turns.
 use Rattle.std.proofs.Common.{◌≡◌, ◌∙◌, inl, inr, ℕ, true, false, List, [], refl, ap, subst}
 use Rattle.iol_core.specs.State.{domain}
 use Rattle.iol_core.specs.declared.events.Call.{Call}
@@ -20,7 +20,7 @@ use Rattle.iol_proc.specs.declared.process.Turn.{Turn}
 use Rattle.iol_proc.specs.declared.process.Turn.TheVariants as turn
 use Rattle.iol_proc.specs.declared.process_slot.ProcessSlot.{ProcessSlot}
 
--- the store's bytes do not show in aggregates
+-- aggregates do not depend on the store's bytes
 readable-slots : (xs ys : List (List ℕ)) (h : KernelState) (by : ℕ)
     → readable_to (held.machine_of xs h) by ≡ readable_to (held.machine_of ys h) by
 unfolding read_of state_view domain

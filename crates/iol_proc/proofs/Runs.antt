@@ -9,21 +9,21 @@ use Rattle.iol_proc.specs.World.{WorldState, domains_of, IsInSlots, WorldStep, W
 use Rattle.iol_proc.specs.declared.choice.Choice.{Choice}
 use Rattle.iol_proc.specs.declared.process_slot.ProcessSlot.{ProcessSlot}
 
--- what holds of a value that is there
+-- the property of an optional value holds for the value that it has
 pub of_some : {X : Type 0} (P : X → Type 0) (o : Option X) (x : X) → o ≡ Some x → IfSome o P → P x
 of_some {X = X} P o x e h = subst (λ (v : Option X). IfSome v P) e h
 
--- a process slot that keeps its domain
+-- a process slot keeps its domain
 pub domains_of-slice_set : {P : Type 0} (xs : List (ProcessSlot P)) (k : ℕ) (x y : ProcessSlot P) → x ≡ get_or xs k x
     → y.by ≡ x.by → domains_of (slice_set xs k y) ≡ domains_of xs
 domains_of-slice_set xs k x y at_k same = map-set_same (λ s. s.by) xs k y x (same ∙ ap (λ s. s.by) at_k)
 
--- as many processes as domains
+-- equal lists of domains have the same number of processes
 pub same_length : {P : Type 0} (xs ys : List (ProcessSlot P)) → domains_of xs ≡ domains_of ys → length xs ≡ length ys
 same_length xs ys e = sym (length-map xs (λ s. s.by)) ∙ (ap length e ∙ length-map ys (λ s. s.by))
 
 module _ {M P : Type 0} (machine : Machine M) (turns : TransitionRelation P) where
-  -- one step more
+  -- one more step
   pub run_more : (w : WorldState M P) (cs : List Choice) (rs : List Reply) (mid : WorldState M P) (c : Choice)
       (r : Reply)
       (after : WorldState M P) → WorldRun machine turns w cs rs mid → WorldStep machine turns mid c r after
@@ -34,7 +34,7 @@ module _ {M P : Type 0} (machine : Machine M) (turns : TransitionRelation P) whe
   run_more w [] (s ∷ ss) mid c r after ran step = absurd ran
   run_more w (d ∷ ds) [] mid c r after ran step = absurd ran
 
-  -- the same of the choices up to a place
+  -- likewise for the choices up to an index
   pub run_at : (w : WorldState M P) (cs : List Choice) (i : ℕ) (rs : List Reply) (mid : WorldState M P) (c : Choice)
       (r : Reply)
       (after : WorldState M P) → i < length cs → c ≡ get_or cs i c → WorldRun machine turns w (take i cs) rs mid
@@ -44,7 +44,7 @@ module _ {M P : Type 0} (machine : Machine M) (turns : TransitionRelation P) whe
       (subst (λ (x : Choice). WorldRun machine turns w (take i cs ++ x ∷ []) (rs ++ r ∷ []) after) is
       (run_more w (take i cs) rs mid c r after ran step))
 
--- the process that sits at the place that was found
+-- the process at the index that was found
 pub in_slots_at : {P : Type 0} (process_slots : List (ProcessSlot P)) (by k : ℕ) (process_slot : ProcessSlot P)
     → slice_get process_slots k ≡ Some process_slot → IfSome (slice_get process_slots k) (λ s. s.by ≡ by)
     → IsInSlots process_slots by process_slot.process

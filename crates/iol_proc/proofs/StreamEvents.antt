@@ -22,7 +22,7 @@ use Rattle.iol_proc.specs.Turns.{TransitionRelation}
 use Rattle.iol_proc.specs.World.{WorldState, copied}
 use Rattle.iol_proc.specs.declared.process_slot.ProcessSlot.{ProcessSlot}
 
--- the store's bytes do not show in connections
+-- connections do not depend on the store's bytes
 conn-slots : (slots : List (List ℕ)) (h : KernelState) (c : ℕ)
     → conn_at (held.machine_of slots h) c ≡ conn_at (tables_of h) c
 unfolding read_of state_view conn_at
@@ -41,7 +41,7 @@ first_none true b c x y z ea eb ec = absurd (cc)
 first_none a true c x y z ea eb ec = absurd (cc)
 first_none a b true x y z ea eb ec = absurd (cc)
 
--- what is there to be sent is not refused
+-- if there are bytes to send, sending them is not refused
 sends : (slots : List (List ℕ)) (h : KernelState) (c n max : ℕ) → lacks_conn (tables_of h) c ≡ false
     → suc n ≤ min max (length (conn_at (tables_of h) c).outgoing)
     → first (transmit (held.machine_of slots h) c (suc n)).refusals ≡ None
@@ -65,7 +65,7 @@ same_copied old new process_slots resource_failure machine =
     ∙ (ap (λ s. world_state (machine_of old.machine) s new.resource_failure) process_slots
     ∙ ap (λ r. world_state (machine_of old.machine) old.process_slots r) resource_failure)
 
--- a refusal leaves the machine, and the processes
+-- a refusal leaves the machine and the processes unchanged
 pub refused_copied : {P A E : Type 0} (r : Result A E) (old new : WorldState SystemState P)
     → new.process_slots ≡ old.process_slots → new.resource_failure ≡ old.resource_failure
     → IfHonest old.machine.disk (OnErr r (machine_of new.machine ≡ machine_of old.machine))

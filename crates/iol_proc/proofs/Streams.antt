@@ -25,12 +25,12 @@ use Rattle.iol_proc.specs.declared.process.Turn.{Turn}
 use Rattle.iol_proc.specs.declared.process.Turn.TheVariants as turn
 use Rattle.iol_proc.specs.declared.process_slot.ProcessSlot.{ProcessSlot}
 
--- A machine whose runs begin with nothing, and with one step more.
+-- A machine whose runs are empty, or begin with one of its steps.
 module _ {M P : Type 0} (machine : Machine M) (turns : TransitionRelation P) (Runs : M → List Event → List Reply → M
     → Type 0) (none : (old new : M) → new ≡ old → Runs old [] [] new)
     (more : (old mid new : M) (e : Event) (r : Reply) (es : List Event) (rs : List Reply) → machine.Step old e r mid
     → Runs mid es rs new → Runs old (e ∷ es) (r ∷ rs) new) where
-  -- a choice at which the machine stays
+  -- a choice that leaves the machine unchanged
   stays_as : (by : ℕ) (r : Reply) (old mid new : M) (xs : List Choice) (rs : List Reply) → may_be_no_call r ≡ true
       → mid ≡ old → RunsAs Runs mid xs rs new → RunsAs Runs old (choice.Turn by ∷ xs) (r ∷ rs) new
   unfolding stream_over sent_over
@@ -124,7 +124,7 @@ module _ {M P : Type 0} (machine : Machine M) (turns : TransitionRelation P) (Ru
   run_as w after [] (r ∷ rs) ran = absurd ran
   run_as w after (x ∷ xs) [] ran = absurd ran
 
--- In parts.
+-- Runs in parts.
 module _ {M P : Type 0} (machine : Machine M) (turns : TransitionRelation P) where
   pub runs_follow : (w mid after : WorldState M P) (past future : List Choice) (rs qs : List Reply)
       → WorldRun machine turns w past rs mid → WorldRun machine turns mid future qs after
@@ -166,7 +166,7 @@ module _ {M P : Type 0} (machine : Machine M) (turns : TransitionRelation P) whe
   sent_over-append w mid past future rs qs c ran =
       reported-append _ _ (sent_reports c) past future rs qs (world-even machine turns w mid past rs ran)
 
--- One choice more.
+-- One more choice.
 pub stream_over-more : (xs : List Choice) (rs : List Reply) (x : Choice) (r : Reply) (c : ℕ) → length xs ≡ length rs
     → stream_over c (xs ++ x ∷ []) (rs ++ r ∷ []) ≡ stream_over c xs rs ++ came_with c x r
 stream_over-more xs rs x r c even = reported-more _ _ (stream_reports c) xs rs x r even
@@ -175,7 +175,7 @@ pub sent_over-more : (xs : List Choice) (rs : List Reply) (x : Choice) (r : Repl
     → sent_over c (xs ++ x ∷ []) (rs ++ r ∷ []) ≡ sent_over c xs rs ++ sent_with c x r
 sent_over-more xs rs x r c even = reported-more _ _ (sent_reports c) xs rs x r even
 
--- Over the machine that copies.
+-- Runs on the copying machine.
 
 run_none : (old new : State) → new ≡ old → Run old [] [] new
 run_none old new same = same

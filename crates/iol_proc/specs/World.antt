@@ -96,7 +96,7 @@ module _ {M P : Type 0} (machine : Machine M) (turns : TransitionRelation P) whe
   TurnAt w place (Some a) after =
       (yields : Bool) × (r : Reply) × PlaceTurn w place yields r after × (a ≡ activity_of yields r)
 
-  -- no process is in this domain
+  -- there is no process in this domain
   pub record Absent (w : WorldState M P) (by : ℕ) (r : Reply) (after : WorldState M P) : Type 0 where
     pub nobody : HasNoProcessSlot w.process_slots by
     pub answer : r ≡ reply.Refused NoDomain

@@ -30,7 +30,7 @@ loop-i-preserved g c =
       );
     }
 
--- the turns that were taken, where no moment before the last was idle
+-- the turns so far, with no idle moment before the last
 module _ {P : Type 0} (turns : TransitionRelation P) (w after : WorldState SystemState P) (most i : ℕ) (idle : Bool)
     (yields : List ℕ) where
   idles : (went : List Went) × RoundRun sharing turns w 0 went after × (length went ≡ i)

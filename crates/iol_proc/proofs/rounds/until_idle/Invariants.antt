@@ -3,7 +3,7 @@ use Rattle.iol_proc.specs.Idle.{Went, RoundRun, yields_of, is_idle}
 use Rattle.iol_proc.specs.World.{sharing, domains_of}
 use Rattle.iol_proc.proofs.rounds.until_idle.Given as goal
 
--- the turns so far, what they are counted to, and that no moment up to now was idle
+-- the turns so far, the counts of their yields, and that no moment so far was idle
 abbrev pub invariant-loop-i : goal.invariant-loop-i
 invariant-loop-i g l = record {
   domains : domains_of l.process_slots.items ≡ domains_of l.fn.process_slots.items;

@@ -2,7 +2,7 @@ use Rattle.std.proofs.Common.{refl}
 use Rattle.iol_proc.proofs.StreamEvents.{arrived_copied, refused_copied}
 use Rattle.iol_proc.proofs.world.World.arrive_from.Goals as goal
 
--- the bytes that came in arrive
+-- the bytes taken from the reader arrive
 pub returns-clause-copied : goal.returns-clause-copied
 returns-clause-copied g c =
     rw (← c.self.view_is)
@@ -39,6 +39,6 @@ returns-clause-err_copied g c =
     })
     refl refl c.arrive_from.ensures.err_machine)
 
--- what it does to the system
+-- the effect on the system
 pub returns-clause-system : goal.returns-clause-system
 returns-clause-system g c = rw (← c.self.view_is) c.arrive_from.ensures

@@ -2,7 +2,7 @@ use Rattle.std.proofs.Common.{refl}
 use Rattle.iol_proc.proofs.StreamEvents.{drained_copied}
 use Rattle.iol_proc.proofs.world.World.drain_into.Goals as goal
 
--- the bytes that were taken are sent
+-- the bytes that the writer took are sent
 pub returns-clause-copied : goal.returns-clause-copied
 returns-clause-copied g c =
     rw (← c.self.view_is)
@@ -22,6 +22,6 @@ returns-clause-copied g c =
     refl refl c.drain_into.ensures.serves.disk c.drain_into.ensures.serves.refuses.passed
     c.drain_into.ensures.serves.drains)
 
--- what it does to the system
+-- the effect on the system
 pub returns-clause-system : goal.returns-clause-system
 returns-clause-system g c = rw (← c.self.view_is) c.drain_into.ensures.serves

@@ -2,7 +2,7 @@ use Rattle.std.proofs.Common.{refl}
 use Rattle.iol_proc.proofs.StreamEvents.{drained_copied}
 use Rattle.iol_proc.proofs.world.World.drain_to.Goals as goal
 
--- the bytes that were taken are sent
+-- the bytes that the writer took are sent
 pub returns-clause-copied : goal.returns-clause-copied
 returns-clause-copied g c =
     rw (← c.self.view_is)
@@ -21,6 +21,6 @@ returns-clause-copied g c =
     })
     refl refl c.drain_to.ensures.disk c.drain_to.ensures.refuses.passed c.drain_to.ensures.drains)
 
--- what it does to the system
+-- the effect on the system
 pub returns-clause-system : goal.returns-clause-system
 returns-clause-system g c = rw (← c.self.view_is) c.drain_to.ensures

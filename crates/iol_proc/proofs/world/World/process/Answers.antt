@@ -3,7 +3,7 @@ use Rattle.std.proofs.lemmas.Option.{slice_get_read}
 use Rattle.iol_proc.proofs.Runs.{in_slots_at}
 use Rattle.iol_proc.proofs.world.World.process.Goals as goal
 
--- the process that sits at the place that was found
+-- the process at the index that was found
 pub returns : goal.returns
 returns g c =
     let found = rw c.deref.ensures.value at c.in_ok-place.ensures in
