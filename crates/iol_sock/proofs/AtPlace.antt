@@ -7,8 +7,8 @@ use Rattle.iol_sock.specs.Connections.{Conn}
 use Rattle.iol_sock.specs.Table.{ChangesOne, ConnTable, IsAmong, conn_in, with_conn}
 use Rattle.iol_sock.proofs.WaitingList.{some-none, conn_in-there, lookup-changed, changed-same}
 
--- From the table t to u a call went, on the connection of that number alone, from x to y. What the call says of x and
--- y, the tables say of their connections.
+-- A call changed the table t to u. Only the connection of that number changed, from x to y. So the promises for x and y
+-- hold for the connections in the tables.
 pub record AtPlace (t u : ConnTable) (number : ℕ) (x y : Conn (List Slice)) : Type 0 where
   pub old : x ≡ conn_in t.conns number
   pub new : y ≡ conn_in u.conns number
@@ -30,18 +30,18 @@ here t to n x y r found =
       };
     }
 
--- the table t is seen as v
+-- the connection of a table, equal to t, is set
 pub at_place : {v t : ConnTable} {to n : ℕ} {x : Conn (List Slice)} (y : Conn (List Slice)) → v ≡ t
     → IsAmong v.conns to n x → AtPlace t (with_conn v n y) n x y
 at_place {v} {t} {to} {n} {x} y view found =
     subst (λ u. AtPlace u (with_conn v n y) n x y) view (here v to n x y found.rise found.value)
 
--- before the call, the table t seen as v had x under that number
+-- before the call, a table equal to t has x under that number
 pub was_at : {v t : ConnTable} {x : Conn (List Slice)} (n : ℕ) → v ≡ t → lookup v.conns n ≡ Some x
     → x ≡ conn_in t.conns n
 was_at {v} {t} {x} n view found = subst (λ u. x ≡ conn_in u.conns n) view (sym (conn_in-there v.conns n x found))
 
--- the connection that was changed is now this
+-- the new value of the connection is z
 pub changed_to : {t u : ConnTable} {number : ℕ} {z : Conn (List Slice)} → ChangesOne t u number
     → conn_in u.conns number ≡ z → u ≡ with_conn t number z
 changed_to {t} {u} {number} one is = one.others ∙ ap (with_conn t number) is

@@ -43,7 +43,7 @@ one_slice s x fine =
     ∙ ap bytes_of (text_of-slice s x fine)
     ∙ bytes_of-labelled x.hold.pool (slice_bytes s x)
 
--- it is short
+-- it has at most `most` bytes
 pub part_short : (s : Stored) (xs : List Slice) (i most : ℕ) (w : List ℕ) → w ≡ part_of s xs i most → length w ≤ most
 part_short s xs i most w is = omega (arith, ap length is, length-take most (all_of s (take 1 (drop i xs))))
 
@@ -96,7 +96,7 @@ prefix_as s xs i most n is =
     ∙ ap (λ k. take k front) same
     ∙ take_min most front
 
--- n bytes of a list, and then others, of which only the first k are taken
+-- n bytes of a list, and then w, of which only the first k are taken
 taken_of : (all pre w : List ℕ) (n k m : ℕ) → length pre ≡ n → k ≤ length w → m ≡ n + length w → take m all ≡ pre ++ w
     → pre ++ take k w ≡ take (n + k) all
 taken_of all pre w n k m size few long is =
@@ -182,7 +182,7 @@ pub slices_few : (xs : List Slice) → length xs ≤ byte_len xs
 slices_few [] = omega arith
 slices_few (x ∷ xs) = omega (arith, slices_few xs, byte_len-cons x xs, x.some)
 
--- Where bytes are left to be offered, there is such a slice, and its index is small.
+-- If bytes are left to be offered, there is another slice, and its index is small.
 
 pub slice_left : (xs : List Slice) (i n most max : ℕ) → most ≡ min (byte_len xs) max
     → n ≡ min most (byte_len (take i xs)) → n < most → i < length xs

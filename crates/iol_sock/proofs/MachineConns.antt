@@ -1,4 +1,4 @@
--- Connections of the copying machine, as they are read.
+-- Connections of the copying machine, by a reading of their bytes.
 use Rattle.std.proofs.Common.{◌≡◌, ℕ, ◌-◌, ◌==◌, ◌&&◌, ◌||◌, Bool, false, not, nat_lt, min, List, [], ◌∷◌, length}
 use Rattle.std.proofs.Common.{Option, refl, sym, ap, subst, ◌∙◌}
 use Rattle.std.specs.Prelude.{unwrap_or, is_some, is_none}
@@ -29,7 +29,7 @@ pub closes_meant : ClosesAsMeant
 closes_meant f x Done = refl
 closes_meant f x Gone = refl
 
--- what bytes that arrive meet at a connection, after the test that it is there
+-- the refusal of n arriving bytes at a connection, if any; `lacks` says that there is no such connection
 met : (lacks : Bool) → machine.Connection → (n : ℕ) → Option Refusal
 met lacks y n = first (
     (BadFd when lacks) ∷

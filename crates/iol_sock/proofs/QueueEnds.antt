@@ -20,7 +20,7 @@ use Rattle.iol_sock.specs.Calls.{ReleasesBoth}
 pub covers_front : {s : Stored} (xs ys : List BufId) → Covers s (xs ++ ys) → Covers s xs
 covers_front xs ys c = record { each = λ b. omega (arith, c.each b, tally-append b xs ys) }
 
--- the first ones are released
+-- the first list is released
 pub covers_rest : {s t : Stored} (xs ys : List BufId) → Covers s (xs ++ ys) → Moves s t xs [] → Covers t ys
 covers_rest xs ys c m =
     record { each = λ b. omega (arith, c.each b, m.counts.each b, tally-append b xs ys, tally_none b) }

@@ -19,7 +19,7 @@ use Rattle.iol_sum.specs.Sums.{Sums, key_of, Uses, UsesEach}
 pub length-bytes_of : (t : Text) → length (bytes_of t) ≡ length t
 length-bytes_of t = length-map t (λ (b : ℕ × ℕ). b.0)
 
--- where no page changed
+-- No page changed.
 
 text_same : (s t : Stored) (xs : List Slice) → t.arena ≡ s.arena → text_of t xs ≡ text_of s xs
 text_same s t xs e =
@@ -42,7 +42,7 @@ uses_same s t (x ∷ xs) old new e h = (
   uses_same s t xs h.0 new e h.2,
 )
 
--- what was taken off is given up
+-- the slices taken off are covered, and then released
 pub sent_covers : {s t : Stored} {old : List BufId} (new sent : List BufId) → Covers s old
     → Shares s t old (sent ++ new) → Covers t sent
 sent_covers new sent c m = record { each = λ b. omega (arith, c.each b, m.counts.each b, tally-append b sent new) }

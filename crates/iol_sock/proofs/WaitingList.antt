@@ -1,4 +1,4 @@
--- The list of connections that wait, beside the table that it is read from.
+-- The list of waiting connections, and the table from which it is read.
 use Rattle.std.proofs.Common.{◌≡◌, ◌≢◌, ℕ, suc, ◌+◌, ◌<◌, ◌≤◌, ◌&&◌, not, List, [], ◌∷◌, ◌++◌, length, find, Bool, true}
 use Rattle.std.proofs.Common.{false, Option, Some, None, option_map, inl, inr, arith, refl, sym, ap, ◌∙◌}
 use Rattle.std.specs.Prelude.{unwrap_or}
@@ -35,7 +35,7 @@ rises-waiting (e ∷ es) from to r = elim (cases_Bool e.1.accepted) [
   | inr waits ↦ rw (listed e es waits) (r.0, rises-waiting es (e.0 + 1) to r.1)
 ]
 
--- the list is without what is taken off
+-- An entry is removed from the list.
 
 pub remove-place : {X : Type 0} (xs : List (ℕ × X)) (n : ℕ) → lookup xs n ≢ None
     → (place_in xs n < length xs) × (remove xs (place_in xs n) ≡ without xs n)
@@ -48,7 +48,7 @@ remove-place {X} (x ∷ xs) n there = elim (cases_eq x.0 n) [
       rw (p, w) (omega (arith, rest.0), ap (λ (xs : List (ℕ × X)). x ∷ xs) rest.1))
 ]
 
--- the table changes
+-- The table changes.
 
 pub waiting-push : (es : Conns) (n p : ℕ) → waiting_in (es ++ (n, new_conn p) ∷ []) ≡ waiting_in es ++ (n, p) ∷ []
 waiting-push [] n p = refl
@@ -104,7 +104,7 @@ some-same o x y a b = cc (a, b)
 pub some-none : {X : Type 0} (x : X) → Some x ≡ None → ⊥
 some-none x bad = cc bad
 
--- where the first has that number, it is the only one
+-- if the first connection has that number, it is the one found
 head-is : (e : ℕ × Conn (List Slice)) (es : Conns) (n : ℕ) (x : Conn (List Slice)) → e.0 ≡ n
     → lookup (e ∷ es) n ≡ Some x → e.1 ≡ x
 head-is e es n x k found = some-same (lookup (e ∷ es) n) e.1 x (lookup-first e es n k) found
@@ -114,7 +114,7 @@ changed-head : (e : ℕ × Conn (List Slice)) (es : Conns) (to n : ℕ) (y : Con
 changed-head e es to n y k r = changed-first e es n y k
     ∙ ap (λ (es : Conns). (n, y) ∷ es) (changed-absent es (e.0 + 1) to n y r (omega (arith, k)))
 
--- a connection stays accepted, or not, and in its pool
+-- a connection stays accepted, or not accepted, and stays in its pool
 pub waiting-kept : (es : Conns) (from to n : ℕ) (x y : Conn (List Slice)) → Rises from es to → lookup es n ≡ Some x
     → y.accepted ≡ x.accepted → y.pool ≡ x.pool → waiting_in (changed es n y) ≡ waiting_in es
 waiting-kept [] from to n x y r found flag pool = refl
@@ -135,7 +135,7 @@ waiting-kept (e ∷ es) from to n x y r found flag pool = elim (cases_eq e.0 n) 
       ])
 ]
 
--- it waited, and is accepted now
+-- a waiting connection is accepted
 pub waiting-accepted : (es : Conns) (from to n : ℕ) (x y : Conn (List Slice)) → Rises from es to → lookup es n ≡ Some x
     → x.accepted ≡ false → y.accepted ≡ true → waiting_in (changed es n y) ≡ without (waiting_in es) n
 waiting-accepted [] from to n x y r found waited accepted = refl
@@ -156,7 +156,7 @@ waiting-accepted (e ∷ es) from to n x y r found waited accepted = elim (cases_
       ])
 ]
 
--- it waited, and is forgotten
+-- a waiting connection is removed
 pub waiting-without : (es : Conns) (n : ℕ) (x : Conn (List Slice)) → lookup es n ≡ Some x → x.accepted ≡ false
     → waiting_in (without es n) ≡ without (waiting_in es) n
 waiting-without [] n x found waited = refl
@@ -176,7 +176,7 @@ waiting-without (e ∷ es) n x found waited = elim (cases_eq e.0 n) [
       ])
 ]
 
--- it was accepted, and is forgotten
+-- an accepted connection is removed
 pub waiting-gone : (es : Conns) (n : ℕ) (x : Conn (List Slice)) → lookup es n ≡ Some x → x.accepted ≡ true
     → waiting_in (without es n) ≡ waiting_in es
 waiting-gone [] n x found accepted = refl
@@ -207,7 +207,7 @@ waiting-there (e ∷ es) n x found waited = elim (cases_eq e.0 n) [
       ])
 ]
 
--- the first that waits and passes a test on its pool
+-- The first waiting connection whose pool passes a test.
 
 pub first-waiting : (test : ℕ → Bool) (es : Conns) → option_map (λ w. w.0) (find (λ w. test w.1) (waiting_in es))
     ≡ option_map (λ e. e.0) (find (λ e. not e.1.accepted && test e.1.pool) es)
@@ -251,7 +251,7 @@ pub first-below : (test : ℕ → Bool) (es : Conns) (ws vs : List (ℕ × ℕ))
 first-below test es ws vs to n o is lent r found some =
     found-below test vs 0 to n (rw (lent, is) (rises-waiting es 0 to r)) (sym found ∙ some)
 
--- what the table's list is after a call, of m, which is the number n
+-- The list of the table after a call on connection n.
 
 pub conn_in-there : (es : Conns) (n : ℕ) (x : Conn (List Slice)) → lookup es n ≡ Some x → conn_in es n ≡ x
 unfolding conn_in
@@ -293,13 +293,13 @@ forgets es ws n x is found waits =
       rw is (sym (waiting-without es n x found waits)),
     )
 
--- the list stays where a connection stays accepted, or not, and in its pool
+-- the list is unchanged if a connection stays accepted, or not accepted, and stays in its pool
 pub index_kept : (es : Conns) (ws : List (ℕ × ℕ)) (to n : ℕ) (x y : Conn (List Slice)) → ws ≡ waiting_in es
     → Rises 0 es to → lookup es n ≡ Some x → y.accepted ≡ x.accepted → y.pool ≡ x.pool
     → ws ≡ waiting_in (changed es n y)
 index_kept es ws to n x y is r found flag pool = is ∙ sym (waiting-kept es 0 to n x y r found flag pool)
 
--- nothing changed
+-- setting a connection to its own value changes nothing
 pub changed-same : (es : Conns) (from to n : ℕ) (x : Conn (List Slice)) → Rises from es to → lookup es n ≡ Some x
     → changed es n x ≡ es
 changed-same [] from to n x r found = refl

@@ -1,4 +1,4 @@
--- The first bytes of slices, as they are written one slice after another.
+-- The first bytes of slices, written one slice after another.
 use Rattle.std.proofs.Common.{◌≡◌, ℕ, ◌+◌, ◌-◌, ◌<◌, ◌≤◌, min, Option, List, ◌∷◌, ◌++◌, length, get_or, map, take, drop}
 use Rattle.std.proofs.Common.{sym, ap, subst, ◌∙◌, arith}
 use Rattle.std.proofs.Math.Seq.{take-add}
@@ -50,12 +50,13 @@ more_written s xs i n len k x h e readable before few within =
     ∙ ap (λ w. take n all ++ w) (take-append-le k (slice_bytes s x) rest (omega (arith, length-slice_bytes x readable))
     ∙ sym (take-take k len (slice_bytes s x) few))
 
--- k bytes more were written of bytes in one piece
+-- k more bytes were written, of bytes in one piece
 pub more_of : (bs : List ℕ) (n k : ℕ) → k ≤ length bs - n
     → take (n + k) bs ≡ take n bs ++ take k (take (length bs - n) (drop n bs))
 more_of bs n k h = take-add n k bs ∙ ap (λ w. take n bs ++ w) (sym (take-take k (length bs - n) (drop n bs) h))
 
--- Of n bytes and those of the i-th slice, of which len are offered and k taken, a becomes c.
+-- n bytes were written. Of the i-th slice, `len` bytes are offered and k are taken, and the writer's contents change
+-- from a to c.
 pub record Takes (s : Stored) (xs : List Slice) (i n max len k : ℕ) (a c : Option (List ℕ)) : Type 0 where
   pub few : k ≤ len
   pub within : n + len ≤ min max (byte_len xs)

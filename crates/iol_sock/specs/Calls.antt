@@ -62,8 +62,8 @@ pub record GivesFront {E : Type 0} (s t : Stored) (x y : Conn (List Slice)) (n d
   pub others : y ≡ record x { incoming = y.incoming }
   pub err : OnErr r ((y ≡ x) × (t ≡ s))
 
--- The longest prefix of the received bytes whose pools all name the domain is copied to the front of a memory, as much
--- of it as there is room for: n bytes. The rest of the memory is unchanged.
+-- The longest prefix of the received bytes whose pools all name the domain is copied to the front of a memory, as far
+-- as there is room: n bytes. The rest of the memory is unchanged.
 pub record CopiesFront (s : Stored) (x : Conn (List Slice)) (d : ℕ) (old new : List ℕ) (n : ℕ) : Type 0 where
   pub count : n ≡ length (take_while (may_see s.pools d) (take (length old) (places x.incoming)))
   pub copied : new ≡ take n (bytes_of (text_of s x.incoming)) ++ drop n old

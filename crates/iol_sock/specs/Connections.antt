@@ -10,8 +10,9 @@ use Rattle.iol_hold.specs.Places.{byte_len}
 use Rattle.iol_hold.specs.Texts.{bufs_of}
 use Rattle.iol_hold.specs.declared.slices.Slice.{Slice}
 
--- The pool of what arrives, what came in and is not yet read, what is to be sent, whether a domain accepted it, whether
--- one closed it, and how its peer closed, if it did. A is what its queues are: lists of slices here.
+-- The pool of arriving bytes, the received bytes that are not yet read, the bytes to be sent, whether a domain accepted
+-- the connection, whether its domain closed it, and how its peer closed, if it did. A is the type of its queues: lists
+-- of slices here.
 pub record Conn (A : Type 0) : Type 0 where
   pub pool : ℕ
   pub incoming : A

@@ -28,6 +28,6 @@ AreCalls gathers before [] after = after ≡ before
 AreCalls gathers before (c ∷ cs) after = gathers before c.offered c.taken c.after × (0 < length c.offered)
     × (cs ≢ [] → c.taken ≡ length c.offered) × AreCalls gathers c.after cs after
 
--- Some calls do.
+-- There are such calls.
 abbrev pub IsCalled : {G : Type 0} → (gathers : G → List ℕ → ℕ → G → Type 0) → (before after : G) → Type 0
 IsCalled {G} gathers before after = (calls : List (Gathering G)) × AreCalls gathers before calls after

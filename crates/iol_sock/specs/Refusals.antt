@@ -14,7 +14,7 @@ use Rattle.iol_sock.specs.Connections.{Conn}
 abbrev pub IsPassed : List (Option Refusal) → Type 0
 IsPassed refusals = first refusals ≡ None
 
--- x is the first refusal of the list that holds; where none does, a late one
+-- x is the first refusal of the list that holds; if none holds, it is a late one
 abbrev pub IsRefused : List (Option Refusal) → (Late : Refusal → Type 0) → Refusal → Type 0
 IsRefused refusals Late x = MatchOption (first refusals) (Late x) (λ y. x ≡ y)
 

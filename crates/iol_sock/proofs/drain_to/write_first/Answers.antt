@@ -25,7 +25,7 @@ slice_bounds-write_some-end g c =
       length-slice_bytes x readable,
     )
 
--- what was taken with the slice at hand
+-- the bytes taken so far, with those of this slice
 more : (g : Over) (c : After-write_some-written g)
     → Takes c.args.store.now c.args.queue.now c.loop-taken.i c.loop-taken.taken c.args.max c.min-len.result
     c.write_some-written.result (g.W.Write.contents c.args.writer.now)

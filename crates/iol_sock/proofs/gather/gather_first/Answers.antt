@@ -11,7 +11,7 @@ use Rattle.iol_sock.proofs.gather.gather_first.Given.{Over}
 use Rattle.iol_sock.proofs.gather.gather_first.Goals.{After-gather-count, After-part-first}
 use Rattle.iol_sock.proofs.gather.gather_first.Goals as goal
 
--- the index of the slice at hand is less than the number of bytes of the queue
+-- the index of this slice is less than the number of bytes of the queue
 near : (g : Over) (c : After-part-first g) → c.loop-taken.i < byte_len c.args.queue.now
 near g c = slice_near c.args.queue.now c.loop-taken.i c.loop-taken.taken c.min-most.result c.args.max
     (omega (arith, c.min-most.ensures, c.len.ensures.len)) c.loop-taken.invariant.full c.loop-taken-test.true
@@ -47,7 +47,7 @@ overflow_add-i-in-loop-taken-3 g c =
       c.len.ensures.most,
     )
 
--- the bytes that were offered, and what was taken with them
+-- the bytes that were offered in this step, and those that were taken
 pub record Step (g : Over) (c : After-gather-count g) : Type 0 where
   pub offered : List ℕ
   pub size : length offered ≡ length c.part-first.result.now + length c.part-second.result.now
