@@ -7,7 +7,7 @@ use Rattle.std.proofs.lemmas.List.{drop-drop}
 use Rattle.iol_core.specs.Checksum.{word_sum, folded}
 use Rattle.iol_sum.proofs.Folds.{folded-more}
 
--- eight bytes as one number, the first as the lowest, are their four words swapped
+-- eight bytes as one little-endian number count as their four words with swapped bytes
 pub folded-eight : (t : ℕ) (xs : List ℕ) → 8 ≤ length xs
     → folded (256 * (t + from_le_bytes w64 (take 8 xs)) + word_sum (drop 8 xs)) ≡ folded (256 * t + word_sum xs)
 folded-eight t (a ∷ b ∷ c ∷ d ∷ e ∷ f ∷ g ∷ h ∷ r) l =

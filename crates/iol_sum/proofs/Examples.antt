@@ -1,4 +1,4 @@
--- The words of contracts on small cases.
+-- The definitions on small cases.
 use Rattle.std.proofs.Common.{◌≡◌, ℕ, true, false, [], ◌∷◌, Some, None, refl}
 use Rattle.iol_sum.specs.Pieces.{swapped, joined}
 use Rattle.iol_sum.specs.declared.keys.Key.{Key}
@@ -12,7 +12,7 @@ pieces_at_an_even_place : (joined 0xc462 false 0x0001 ≡ 0xc463) × (joined 0xf
     × (joined 0 false 0 ≡ 0)
 pieces_at_an_even_place = (refl, refl, refl)
 
--- the first n bytes of page 0 in its first generation, and of page 0 used again
+-- the keys of the first n bytes of page 0, in its first generation and in its second
 abbrev first : ℕ → Key
 first n = record { page = 0; generation = 1; from = 0; len = n }
 
@@ -22,11 +22,11 @@ again n = record { page = 0; generation = 2; from = 0; len = n }
 abbrev full : Sums
 full = record { entries = (first 3, 30) ∷ (first 4, 40) ∷ []; limit = 2 }
 
--- a remembered key comes first, and none goes
+-- using a remembered key makes it the first, and removes no key
 used_again : used full (first 4) 40 ≡ record { entries = (first 4, 40) ∷ (first 3, 30) ∷ []; limit = 2 }
 used_again = refl
 
--- a new key drives the last one out, where the list is full
+-- a new key removes the last one if the list is full
 used_anew : used full (first 5) 50 ≡ record { entries = (first 5, 50) ∷ (first 3, 30) ∷ []; limit = 2 }
 used_anew = refl
 
@@ -37,6 +37,6 @@ used_with_room : used (record { entries = full.entries; limit = 3 }) (first 5) 5
 }
 used_with_room = refl
 
--- the same bytes of the page used again have another key
+-- the same bytes of the page have another key in its second generation
 kept_of_each : (sum_kept full (first 4) ≡ Some 40) × (sum_kept full (again 4) ≡ None) × (sum_kept full (first 5) ≡ None)
 kept_of_each = (refl, refl, refl)

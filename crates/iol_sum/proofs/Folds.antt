@@ -1,4 +1,4 @@
--- Numbers of one folded sum: equal modulo 65535, and 0 alone is like 0.
+-- Numbers with the same folded sum: equal modulo 65535, and only 0 has the sum 0.
 use Rattle.std.proofs.Common.{◌≡◌, ℕ, ◌+◌, ◌-◌, ◌*◌, ◌%◌, ◌/◌, ◌<◌, ◌≤◌, refl, sym, ap, ◌∙◌, arith, inl, inr}
 use Rattle.std.proofs.lemmas.Bool.{cases_lt}
 use Rattle.std.proofs.lemmas.Bool.Decides.{nat_tests}
@@ -11,7 +11,7 @@ folded-some n h = grind (arith, nat_tests)
 pub folded-none : (n : ℕ) → n ≡ 0 → folded n ≡ 0
 folded-none n e = grind (arith, nat_tests)
 
--- what is greater by a multiple of 65535 has the same sum, unless one is 0 and the other is not
+-- a number that is greater by a multiple of 65535 has the same sum, unless only one of the two is 0
 pub folded-more : (m n k : ℕ) → m ≡ n + 65535 * k → (n ≡ 0 → k ≡ 0) → folded m ≡ folded n
 folded-more m n k e z = elim (cases_lt 0 n) [
   | inl h ↦ let a = folded-some n h in let b = folded-some m (omega arith) in omega arith
@@ -57,7 +57,7 @@ pub joined-odd : (a b : ℕ) → folded (folded a + swapped (folded b)) ≡ fold
 joined-odd a b = folded-add a (swapped (folded b))
     ∙ alike-before (swapped (folded b)) (256 * b) a (sym (folded-swapped (folded b)) ∙ folded-times b)
 
--- what fits 16 bits is its own sum
+-- a number of 16 bits is its own sum
 pub folded-small : (n : ℕ) → n ≤ 65535 → folded n ≡ n
 folded-small n h = elim (cases_lt 0 n) [
   | inl p ↦ let a = folded-some n p in omega arith
@@ -70,7 +70,7 @@ folded-fits n = elim (cases_lt 0 n) [
   | inr p ↦ let a = folded-none n (omega arith) in omega arith
 ]
 
--- a sum that was swapped is swapped back
+-- a sum with its bytes swapped is the sum of 256 times the number
 pub swapped-back : (n : ℕ) → swapped (folded n) ≡ folded (256 * n)
 swapped-back n =
     let fits = folded-fits n in

@@ -1,4 +1,4 @@
--- Remembered sums stay right as the store goes on.
+-- Remembered sums stay right while the store changes.
 use Rattle.std.proofs.Common.{ℕ, ◌+◌, slice_range, sym, ap, ◌∙◌, arith, inl, inr}
 use Rattle.std.proofs.lemmas.List.Elements.{All-weaker}
 use Rattle.iol_core.specs.Checksum.{word_sum, folded}

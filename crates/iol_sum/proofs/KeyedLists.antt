@@ -1,4 +1,4 @@
--- Lists with keys, and the entries found, missed and removed there.
+-- Lists with keys, and entries that are found, missed and removed.
 use Rattle.std.proofs.Common.{◌≡◌, ℕ, zero, suc, ◌+◌, Bool, true, false, ◌&&◌, List, [], ◌∷◌, length, take, Some, None}
 use Rattle.std.proofs.Common.{refl, sym, ap, subst, ◌∙◌, arith}
 use Rattle.std.specs.List.{AllByRecursion, IsDistinct}
@@ -45,7 +45,7 @@ entry-missed k (f ∷ es) h = (elim (same k f.0) as (λ y. same k f.0 ≡ y → 
   | false ↦ λ t. rw t (entry-missed k es (rw t at h))
 ]) refl
 
--- one fewer
+-- one entry less
 pub length-removed : (k : Key) (n : ℕ) (es : List (Key × ℕ)) → lookup (same k) es ≡ Some n
     → length (remove_entry (same k) es) + 1 ≡ length es
 length-removed k n [] h = cc
@@ -81,7 +81,7 @@ IsNew-take j (suc n) (f ∷ es) h = (h.0, IsNew-take j n es h.1)
 abbrev pub AreDistinct : List (Key × ℕ) → Type 0
 AreDistinct es = IsDistinct same (keys_of es)
 
--- a removed key is not there any more
+-- a removed key is no longer in the list
 pub removed-new : (k : Key) (es : List (Key × ℕ)) → AreDistinct es → IsNew k (remove_entry (same k) es)
 removed-new k [] d = tt
 removed-new k (f ∷ es) d = (elim (same k f.0) as (λ y. same k f.0 ≡ y → IsNew k (remove_entry (same k) (f ∷ es))) [

@@ -1,4 +1,4 @@
--- What becomes of remembered sums when one is used.
+-- Remembered sums, after one is used.
 use Rattle.std.proofs.Common.{◌≡◌, ℕ, ◌+◌, ◌-◌, ◌≤◌, true, false, List, [], ◌∷◌, length, take, Option, Some, None, OnOk}
 use Rattle.std.proofs.Common.{OnErr, Result, Ok, Err, refl, sym, ap, subst, ◌∙◌, arith, inl, inr}
 use Rattle.std.specs.List.{All}
@@ -14,7 +14,7 @@ use Rattle.iol_sum.specs.Sums.{Sums, same, sum_kept, IsRightSum, IsRight, others
 use Rattle.iol_sum.proofs.KeyedLists.{same-true, entry-found, entry-missed, length-removed, AreDistinct, IsNew}
 use Rattle.iol_sum.proofs.KeyedLists.{removed-new, removed-distinct, take-distinct, take-new}
 
--- as contracts see the kit's cache
+-- the kit's cache, as contracts see it
 abbrev pub sums_of : LruCache Key ℕ → Sums
 sums_of c = record { entries = c.entries; limit = c.cap }
 
@@ -38,7 +38,7 @@ pub unpromoted : (c new : LruCache Key ℕ) (k : Key) → lookup (same k) c.entr
     → new ≡ lru_cache (promoted (same k) c.entries) c.cap → new ≡ c
 unpromoted c new k h e = e ∙ (rw (entry-missed k c.entries h) refl)
 
--- a new sum is put in, or memory is refused
+-- a new sum is inserted, or memory is refused
 pub Uses-put : {X E : Type 0} (c new : LruCache Key ℕ) (k : Key) (n : ℕ) (r : Result X E)
     → lookup (same k) c.entries ≡ None → OnOk r (new ≡ lru_cache (put_entries same c k n) c.cap) → OnErr r (new ≡ c)
     → Uses (sums_of c) k n (sums_of new)
@@ -67,7 +67,7 @@ removed-right s k (f ∷ es) h =
           (removed-right s k es (All-tail (IsRightSum s) f es h)))
     ]) refl
 
--- what may stand behind a key
+-- entries that may come after a key
 record Behind (s : State) (c : Sums) (k : Key) (es : List (Key × ℕ)) : Type 0 where
   each : All (IsRightSum s) es
   distinct : AreDistinct es

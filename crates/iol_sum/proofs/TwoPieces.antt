@@ -38,7 +38,7 @@ by_place : (b : Bool) (xs ys : List ℕ) → b ≡ is_odd (length xs)
 by_place true xs ys h = joined-odd (word_sum xs) (word_sum ys) ∙ sym (word_sum-odd xs ys (sym h))
 by_place false xs ys h = joined-even (word_sum xs) (word_sum ys) ∙ sym (ap folded (word_sum-even xs ys (sym h)))
 
--- the sum of the whole, from the sums of a piece and of the rest
+-- the sum of a list, from the sums of its two pieces
 pub joined-append : (s : ℕ) (b : Bool) (t : ℕ) (xs ys : List ℕ) → s ≡ folded (word_sum xs) → b ≡ is_odd (length xs)
     → t ≡ folded (word_sum ys) → joined s b t ≡ folded (word_sum (xs ++ ys))
 joined-append s b t xs ys e f g = ap (λ n. joined n b t) e ∙ ap (λ n. joined (folded (word_sum xs)) b n) g

@@ -2,7 +2,7 @@ use Rattle.std.proofs.Common.{◌≡◌, ◌+◌, ◌*◌, ◌≤◌, drop, leng
 use Rattle.iol_core.specs.Checksum.{word_sum, folded}
 use Rattle.iol_sum.proofs.bytes.sum_of.Given as goal
 
--- what was added is swapped: 256 times as much has the sum of the bytes so far
+-- the total is swapped: 256 times the total has the sum of the bytes so far
 abbrev pub invariant-loop-chunk : goal.invariant-loop-chunk
 invariant-loop-chunk l = record {
   sum : folded (256 * l.total + word_sum (drop (8 * l.chunk-index) l.bytes)) ≡ folded (word_sum l.bytes);

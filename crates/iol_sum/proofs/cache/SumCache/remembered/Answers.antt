@@ -8,7 +8,7 @@ use Rattle.iol_sum.specs.Sums.{Sums, key_of, same, sum_kept, IsRight}
 use Rattle.iol_sum.proofs.SumUse.{sums_of, right-sum}
 use Rattle.iol_sum.proofs.cache.SumCache.remembered.Goals as goal
 
--- a sum that is remembered of a slice is that of its bytes
+-- a sum that is remembered for a slice is that of its bytes
 value : (s : Stored) (x : Slice) (c : Sums) → IsReadable s x → IsRight s.arena c → (o : Option ℕ)
     → o ≡ sum_kept c (key_of x) → IfSome o (λ n. n ≡ folded (word_sum (slice_bytes s x)))
 value s x c ready h None e = tt
