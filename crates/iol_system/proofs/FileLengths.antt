@@ -1,4 +1,4 @@
--- What a reply says of the end of a file, from the contract of the kernel's call.
+-- The end of a file that a reply reports, from the contract of the kernel's call.
 use Rattle.std.proofs.Common.{ℕ, List, Option, Some}
 use Rattle.std.specs.Prelude.{Result, Ok, Err, IfOk}
 use Rattle.iol_back.specs.Disk.{Disk}

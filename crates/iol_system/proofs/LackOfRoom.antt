@@ -160,7 +160,7 @@ module _ (Read : (f i : ℕ) → Type 0) where
       (only_counted f from to a.hits a.reserved x.hit.cache a.tile.hits read a.counted)
       (same_cache x.hit.cache new.cache (x.undone.cache ∙ ap (λ (h : Holding). h.cache) same)))
 
-  -- what a refused read of a range leaves: extents with the same buffers, and each buffer with its count
+  -- the state after a refused read of a range: the extents have the same buffers, and each buffer its count
   abbrev RangeLeft : (old new : Holding) → Type 0
   RangeLeft old new = EvictsNothing Read old.cache new.cache × HeldAlike old.store new.store
       × (held new.cache.files ≡ held old.cache.files)

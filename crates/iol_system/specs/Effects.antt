@@ -66,7 +66,7 @@ pub record Does (disk : Disk) (old : KernelState) (e : Event) (r : Reply) (after
   pub sound : IsSound new
   pub stays : Stays old.store new.store
 
--- the effect of a call of a domain that does not ask the store, whatever it has
+-- the effect of a call of a domain that does not ask the store, for any content of the store
 abbrev pub DoesAlone : (by : ℕ) → Call → Kernel → Reply → Kernel → Type 0
 DoesAlone by call old r new = (disk : Disk) → Does disk (state_of old) (event.Call by call) r disk (state_of new)
 

@@ -79,8 +79,9 @@ pub record CreatesFile (old new : KernelState) : Type 0 where
   pub same : new ≡ record old { files = new.files; cache = new.cache }
   pub added : AddsEmpty old.cache new.cache
 
--- What a call creates. A new pool has as many chunks as were asked for, the lowest free ones, and the others have
--- theirs. A pool to which a domain was admitted names it, and nothing else changed. A new file has no extent in memory.
+-- The objects that a call creates. A new pool has as many chunks as were requested, the lowest free ones, and the other
+-- pools keep theirs. A pool to which a domain was admitted names it, and nothing else changed. A new file has no extent
+-- in memory.
 abbrev pub CallCreates : KernelState → Call → Reply → KernelState → Type 0
 CallCreates old (call.PoolCreate chunks list) (reply.Pool p) new =
     AddsPool old.store.arena new.store.arena old.store.pools new.store.pools chunks (distinct list)
@@ -88,7 +89,7 @@ CallCreates old (call.PoolAdmit p d) reply.Done new = new ≡ with_reader old p 
 CallCreates old (call.FileNew name p) (reply.File f) new = CreatesFile old new
 CallCreates old c r new = ⊤
 
--- what an event creates: a call as `CallCreates` says; for any other event this says nothing
+-- the objects that an event creates: a call as `CallCreates` says; for any other event this says nothing
 abbrev pub Creates : KernelState → Event → Reply → KernelState → Type 0
 Creates old (event.Call by c) r new = CallCreates old c r new
 Creates old e r new = ⊤

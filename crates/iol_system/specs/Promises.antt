@@ -63,12 +63,12 @@ pub record Promises (old : SystemState) (e : Event) (r : Reply) (new : SystemSta
   -- none
   pub uncached : IsFalse (uses_cache (tables_of old.kernel) e) → IsFalse (makes_file e)
       → new.kernel.cache ≡ old.kernel.cache
-  -- what a late refusal may leave: clean parts of files evicted, in the order of eviction, hits counted, and pages with
+  -- the effect of a late refusal: clean parts of files evicted, in the order of eviction, hits counted, and pages with
   -- an incremented generation that were filled and are free again
   pub late : LeavesLate old e r new
   -- `show` and `length` change nothing
   pub looks : IsTrue (only_looks e) → new ≡ old
-  -- the bytes that a sharing call hands on keep their places
+  -- the bytes that a sharing call passes on keep their places
   pub shares : IsTrue (is_sharing (tables_of old.kernel) e) → LaysOut (layout_of old.kernel) e r (layout_of new.kernel)
   -- a sharing call changes no page and no pool
   pub pages : IsTrue (is_sharing (tables_of old.kernel) e) → SamePages old.kernel.store new.kernel.store
@@ -76,7 +76,7 @@ pub record Promises (old : SystemState) (e : Event) (r : Reply) (new : SystemSta
   pub still : IsTrue (is_still e) → LaysOut (layout_of old.kernel) e r (layout_of new.kernel)
   -- bytes of files in memory keep their places, except for those that are written and clean ones that are evicted
   pub in_place : KeepsInPlace old e new.kernel
-  -- the remaining bytes keep their places when bytes are sent or copied off a queue, or a position moves
+  -- the remaining bytes keep their places when bytes are sent or copied from a queue, or a position moves
   pub places : IsTrue (takes_out (tables_of old.kernel) e) → IsDone r → layout_of new.kernel
       ≡ (meaning (layout_of old.kernel) e).after
   -- each byte of an aggregate keeps its place until a call gives the aggregate up
@@ -94,8 +94,8 @@ pub record Promises (old : SystemState) (e : Event) (r : Reply) (new : SystemSta
   -- A new pool has the lowest free chunks. Admitting a domain changes only the pool's list, and a new file has no
   -- extent in memory.
   pub creates : Creates old.kernel e r new.kernel
-  -- over any store `length` returns the end of a read, `seek` goes at most to it, and `file_new` takes no slot with too
-  -- many bytes
+  -- over any store `length` returns the end of a read, `seek` sets a position of at most that end, and `file_new`
+  -- accepts no slot with too many bytes
   pub ends : ReportsEnd old e r
   -- sending remembers the sums of the slices sent, and no other event changes the remembered sums
   pub sums : Remembers old.kernel e r new.kernel

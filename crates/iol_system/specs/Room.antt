@@ -65,13 +65,13 @@ CallLacksRoom s by (call.Read fd n) = LacksRoomToRead s (held_by (tables_of s.ke
 CallLacksRoom s by (call.Write fd bytes) = FitsNot s.kernel (for_written s.kernel by fd bytes)
 CallLacksRoom s by c = ⊥
 
--- the pages or the chunks that an event needs can be had
+-- the pages or the chunks that an event needs are available
 abbrev pub HasRoomFor : SystemState → Event → Type 0
 HasRoomFor s (event.Call by c) = CallHasRoom s by c
 HasRoomFor s (event.Arrive c bytes) = Fits s.kernel (for_arrived s.kernel c bytes)
 HasRoomFor s e = ⊤
 
--- the pages or the chunks that an event needs cannot be had
+-- the pages or the chunks that an event needs are not available
 abbrev pub LacksRoomFor : SystemState → Event → Type 0
 LacksRoomFor s (event.Call by c) = CallLacksRoom s by c
 LacksRoomFor s (event.Arrive c bytes) = FitsNot s.kernel (for_arrived s.kernel c bytes)

@@ -1,4 +1,4 @@
--- Into how many slices an event divides its bytes.
+-- The number of slices into which an event divides its bytes.
 use Rattle.std.specs.Prelude.{ℕ, length, ⊤, IsFalse}
 use Rattle.iol_core.specs.State.{descriptor}
 use Rattle.iol_core.specs.Calls.Writes.{is_file}

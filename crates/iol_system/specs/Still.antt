@@ -1,4 +1,4 @@
--- Events that neither place bytes nor hand them on, those that take bytes out, and those that change nothing.
+-- Events that neither place bytes nor pass them on, those that take bytes out, and those that change nothing.
 use Rattle.std.specs.Prelude.{Bool, true, false, not}
 use Rattle.iol_core.specs.State.{State}
 use Rattle.iol_core.specs.Calls.Writes.{is_file}

@@ -97,8 +97,8 @@ StoresBack disk old (event.Call by (call.Fsync fd)) r after new =
 StoresBack disk old event.Flush r after new = FlushesAs disk old r after new
 StoresBack disk old e r after new = ⊤
 
--- What one event writes back or drops: the extents that are clean and stored if it succeeds, and those that were
--- written whatever the reply.
+-- The effect of writing back and dropping in one event: the extents that are clean and stored if it succeeds, and those
+-- that were written whatever the reply.
 pub record WritesBack (disk : Disk) (old : KernelState) (e : Event) (r : Reply) (after : Disk) (new : KernelState) :
     Type 0 where
   pub synced : IsDone r → IsSynced old e new
