@@ -1,4 +1,4 @@
--- Keys that come into blocks and go out of them.
+-- Keys that are inserted into blocks and removed from them.
 use Rattle.std.proofs.Common.{inl, inr, ◌≡◌, ℕ, ◌+◌, ◌-◌, ◌*◌, ◌<◌, ◌≤◌, List, length, get_or, set, take, insert}
 use Rattle.std.proofs.Common.{remove, refl, sym, ap, ◌∙◌, arith, subst}
 use Rattle.std.proofs.lemmas.Bool.{cases_eq}
@@ -9,7 +9,7 @@ use Rattle.iol_tier.specs.Blocks.{Shifts, Becomes}
 use Rattle.iol_tier.proofs.JoinedKeys.{joined-put, joined-take, length-before}
 use Rattle.iol_tier.proofs.Shifts.{one_here, one_other}
 
--- Which places are filled, with one more in block e before the first or behind the last.
+-- The filled places, with one more key in block e, before the first key or after the last.
 
 pub filled_left : (skip more len k e s : ℕ) → more ≡ skip + 1 → e * 128 ≤ skip → skip < e * 128 + 128
     → before_block more len k + s ≡ before_block more len (k + 1)
@@ -27,7 +27,7 @@ filled_right skip len k e s l h f = elim (cases_eq k e) [
   | inr apart ↦ omega (arith, l, h, f, apart, one_other k e apart)
 ]
 
--- the same, with one less
+-- The same, with one key less.
 
 pub left_of_filled : (skip more len k e s t : ℕ) → more ≡ skip + 1 → e * 128 ≤ skip → skip < e * 128 + 128
     → t + one_if k e ≡ s → before_block skip (len + 1) k + s ≡ before_block skip (len + 1) (k + 1)
@@ -45,7 +45,7 @@ right_of_filled skip len k e s t l h d f = elim (cases_eq k e) [
   | inr apart ↦ omega (arith, l, h, f, d, apart, one_other k e apart)
 ]
 
--- One block is another.
+-- One block is replaced.
 
 pub size_set : (bs : List Block) (at : ℕ) (b : Block) (k : ℕ) → at < length bs → length b.keys ≡ size_at bs at + 1
     → size_at (set bs at b) k ≡ size_at bs k + one_if k at
@@ -91,7 +91,7 @@ width_set bs at b k h l = elim (cases_eq k at) [
   | inr apart ↦ omega (arith, ap (λ (x : Block). x.capacity) (get_or-set_other bs at k b no_block apart))
 ]
 
--- A place came free in block `at`, for one in block e, and a key came in there.
+-- A place became free in block `at`, instead of one in block e, and a key is inserted there.
 pub put_becomes : (old mid : List Block) (e at i place key len skip : ℕ) (x b : Block) → Shifts e at old mid
     → at < length old → x ≡ get_or mid at x → i ≤ length x.keys → b.keys ≡ insert x.keys i key → x.capacity ≤ b.capacity
     → len ≡ length (joined old) → place ≤ len → place ≡ length (joined (take at mid)) + i
@@ -125,7 +125,7 @@ put_becomes old mid e at i place key len skip x b s h read l new wide long most 
       };
     }
 
--- A key went out of block `at`, and a place comes free in block e for it.
+-- A key is removed from block `at`, and a place becomes free in block e instead.
 pub take_becomes : (old new : List Block) (e at i place len skip : ℕ) (x b : Block) → at < length old
     → x ≡ get_or old at x → i < length x.keys → b.keys ≡ remove x.keys i → b.capacity ≡ x.capacity
     → Shifts at e (set old at b) new
@@ -275,7 +275,7 @@ put_right_becomes old mid skip e at place key x b e_low e_high low high filled f
           omega (arith, e_low, e_high, low, high, most, f, d, xl, apart, one_other at e apart, one_here at at refl)
     ]
 
--- a key that goes out of block `at`, where the places that are left are filled
+-- the key to remove is in block `at`, and the keys that are left fill the blocks
 taken_at : (old new : List Block) (skip more e at place : ℕ) (x b : Block) → at * 128 ≤ skip + place
     → skip + place < at * 128 + 128
     → AreFilled old skip (length (joined old)) → skip + length (joined old) ≤ length old * 128

@@ -1,4 +1,4 @@
--- Empty blocks that come to the other end, and blocks that are added.
+-- Empty blocks that move to the other end, and blocks that are added.
 use Rattle.std.proofs.Common.{inl, inr, ◌≡◌, ℕ, zero, suc, ◌+◌, ◌-◌, ◌*◌, ◌<◌, ◌≤◌, List, [], ◌∷◌, ◌++◌, length, get_or}
 use Rattle.std.proofs.Common.{set, take, drop, ◌^◌, refl, sym, ap, ◌∙◌, arith, subst, length-append, append-nil}
 use Rattle.std.proofs.lemmas.Bool.{cases_eq, cases_lt}
@@ -210,7 +210,7 @@ widened old mid at x b g h read same more = record {
       };
 }
 
--- What holds of blocks holds of more.
+-- Properties of blocks, after more blocks are added.
 
 pub grows_then : (xs ys zs : List Block) → Grows xs ys → Grows ys zs → Grows xs zs
 grows_then xs ys zs g h = record {

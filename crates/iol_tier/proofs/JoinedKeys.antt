@@ -11,7 +11,7 @@ joined-append [] bs = refl
 joined-append (c ∷ cs) bs = ap (λ (ks : List ℕ). c.keys ++ ks) (joined-append cs bs)
     ∙ sym (append_assoc c.keys (joined cs) (joined bs))
 
--- with the block at k between those before and those after it
+-- the block at k, between those before it and those after it
 pub joined-split : (bs : List Block) (k : ℕ) → k < length bs
     → joined bs ≡ joined (take k bs) ++ ((block_at bs k).keys ++ joined (drop (suc k) bs))
 joined-split [] k h = absurd (omega (arith, h))
@@ -24,7 +24,7 @@ pub joined-set : (bs : List Block) (k : ℕ) (b : Block) → k < length bs
     → joined (set bs k b) ≡ joined (take k bs) ++ (b.keys ++ joined (drop (suc k) bs))
 joined-set bs k b h = ap joined (set_split bs k b h) ∙ joined-append (take k bs) (b ∷ drop (suc k) bs)
 
--- how many keys lie before a block, where those before it are filled
+-- the number of keys before a block, if the blocks before it are filled
 pub length-before : (bs : List Block) (skip len k : ℕ)
     → ((j : ℕ) → j < k → before_block skip len j + size_at bs j ≡ before_block skip len (j + 1)) → k ≤ length bs
     → length (joined (take k bs)) ≡ before_block skip len k
@@ -87,7 +87,7 @@ joined-take bs k i at b h l is new =
     (λ high. remove-append_left (block_at bs k).keys high i l)
     (λ low rest le. remove-append_right low rest (length low) at refl le)
 
--- Keys that move over the border between two blocks.
+-- Keys that move across the border between two blocks.
 
 pub joined-border : (bs : List Block) (at next : ℕ) (b c : Block) → next ≡ at + 1 → next < length bs
     → b.keys ++ c.keys ≡ (block_at bs at).keys ++ (block_at bs next).keys
@@ -103,7 +103,7 @@ joined-border (x ∷ y ∷ bs) (suc at) zero b c n h e = absurd (omega (arith, n
 joined-border (x ∷ y ∷ bs) (suc at) (suc next) b c n h e =
     ap (λ (ks : List ℕ). x.keys ++ ks) (joined-border (y ∷ bs) at next b c (omega (arith, n)) (omega (arith, h)) e)
 
--- as it is read
+-- the key that is read at a place
 pub key_read : (bs : List Block) (skip len place k key : ℕ) (x : Block) → AreFilled bs skip len
     → len ≡ length (joined bs) → place < len → k < length bs → k * 128 ≤ skip + place → skip + place < k * 128 + 128
     → x ≡ get_or bs k x → key ≡ get_or x.keys (place - (k * 128 - skip)) key → key ≡ get_or (joined bs) place key

@@ -1,4 +1,4 @@
--- Keys that move over borders, one after another.
+-- Keys that move across borders, one after another.
 use Rattle.std.proofs.Common.{inl, inr, ◌≡◌, ◌≢◌, ℕ, ◌+◌, ◌-◌, ◌<◌, List, [], ◌∷◌, ◌++◌, length, get_or, set, refl, sym}
 use Rattle.std.proofs.Common.{ap, ◌∙◌, arith, subst, append_assoc, length-append}
 use Rattle.std.proofs.lemmas.Bool.{cases_eq}
@@ -14,7 +14,7 @@ one_here k at e = grind (arith, nat_tests)
 pub one_other : (k at : ℕ) → k ≢ at → one_if k at ≡ 0
 one_other k at e = grind (arith, nat_tests)
 
--- blocks of which two are others
+-- two blocks are replaced
 two_set : (bs : List Block) (i j : ℕ) (b c : Block) (k : ℕ) → i < length bs → j < length bs → i ≢ j
     → (P : Block → Type 0) → (k ≡ i → P b) → (k ≡ j → P c) → (k ≢ i → k ≢ j → P (block_at bs k))
     → P (block_at (set (set bs j c) i b) k)
@@ -29,7 +29,7 @@ two_set bs i j b c k h l d P f g other = elim (cases_eq k i) [
   ])
 ]
 
--- A key moves over a border.
+-- A key moves across a border.
 
 crossed : (bs : List Block) (at next to from : ℕ) (b c : Block) → next ≡ at + 1 → next < length bs
     → b.keys ++ c.keys ≡ (block_at bs at).keys ++ (block_at bs next).keys
@@ -72,7 +72,7 @@ pushed bs at next b c n h e bl cl bw cw = subst (Shifts next at bs) (set_comm bs
     (omega (arith, cl, one_here next next refl, one_other next at (omega (arith, n))))
     (λ k d f. one_other k at d ∙ sym (one_other k next f)) bw cw)
 
--- as it is done: the block that loses the key first
+-- in the order of the code: first the block that loses the key
 pub pull_step : (bs : List Block) (at key : ℕ) (x y b c : Block) → at + 1 < length bs → y ≡ get_or bs (at + 1) y
     → y.keys ≡ key ∷ c.keys → HasPlace y c → x ≡ get_or (set bs (at + 1) c) at x
     → b ≡ record x { keys = x.keys ++ key ∷ [] } → MovesPlace at (at + 1) bs (set (set bs (at + 1) c) at b)

@@ -29,13 +29,14 @@ pub record Removes (place taken : ℕ) (old new : Tiered) : Type 0 where
   pub room : new.room ≡ old.room + 1
   pub few : new.room < 2 ^ 64
 
--- So many blocks have places for so many keys; where these want more than one, also without the last.
+-- These blocks have places for these keys; if the keys need more than one block, even without the last block.
 pub record AreEnough (blocks keys : ℕ) : Type 0 where
   pub enough : keys ≤ blocks * 128
   pub more : 128 < keys → keys ≤ (blocks - 1) * 128
   pub few : blocks ≤ 2 ^ 48
 
--- How many keys so many blocks are to take, where these are wanted: no fewer, and in blocks no wider.
+-- The number of keys that these blocks are to hold, if `wanted` are requested: no fewer, and in blocks that are no
+-- wider.
 pub record IsMost (blocks wanted most : ℕ) : Type 0 where
   pub keys : wanted ≤ most
   pub fits : most ≤ blocks * 128
