@@ -62,9 +62,9 @@ impl Agg {
         Agg { slices, len }
     }
 
-    /// Makes an aggregate of these bytes by copying them into new buffers on the lowest free pages of an open pool. No bytes take
-    /// no page. Returns `NoRoom` only if the pool has fewer free pages than the bytes need, which is always so for more than
-    /// `MAX_AGGREGATE_BYTES`, and `Memory`. An error changes nothing.
+    /// Makes an aggregate of these bytes by copying them into new buffers on the lowest free pages of an open pool.
+    /// Zero bytes take no page. Returns `NoRoom` only if the pool has fewer free pages than the bytes need, which is
+    /// always so for more than `MAX_AGGREGATE_BYTES`, and `Memory`. An error changes nothing.
     pub fn fill(
         alloc: Global,
         store: &mut Store,
