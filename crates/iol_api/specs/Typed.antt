@@ -47,8 +47,8 @@ aggs two = reply.Aggs two.0 two.1
 abbrev pub segment : List ℕ × ℕ → Reply
 segment two = reply.Segment two.0 two.1
 
--- What an outside event promises: the world stays the same one, the event is carried out with all that
--- `World::step_outside` promises of it, and the reply is this result.
+-- The promises of an external event: the world is still the same one, the event is carried out with all promises of
+-- `World::step_outside`, and the reply is this result.
 pub record Happens {B P : Type 0} {A : Type 0} (turns : TransitionRelation P) (f : A → Reply) (old : Outside B P)
     (e : Event) (result : Result A Refusal) (new : Outside B P) : Type 0 where
   pub same_reference : new.world.ghost_name ≡ old.world.ghost_name
