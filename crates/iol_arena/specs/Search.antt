@@ -24,11 +24,11 @@ pub record IsSearching (s : State) (ps : List Part) (from to had need : ℕ) : T
   pub have : had ≤ need
   pub parts : EndBefore from ps
 
--- the search has come to a page with these parts, and has no more pages than are needed
+-- the search is at a page with these parts, and has no more pages than are needed
 abbrev pub IsAtPage : State → List Part → (page had need : ℕ) → Type 0
 IsAtPage s ps page had need = IsSearching s ps page (page + 1) had need
 
--- the search has come to the first page of a chunk with these parts, and has no more pages than are needed
+-- the search is at the first page of a chunk with these parts, and has no more pages than are needed
 abbrev pub IsAtChunk : State → List Part → (chunk had need : ℕ) → Type 0
 IsAtChunk s ps c had need = IsSearching s ps (c * CHUNK_PAGES) ((c + 1) * CHUNK_PAGES) had need
 

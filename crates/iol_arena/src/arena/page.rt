@@ -13,7 +13,7 @@ impl Arena {
         ensures count { result ≡ page_count self.now }
         ensures chunks { page_count self.now ≡ CHUNK_PAGES * chunk_count self.now }
     {
-        // Brings the invariant: how many pages there are, and which buffers are on them.
+        // Shows the invariant: the number of pages, and the buffers on them.
         let _entries = &self.entries;
         self.entries.len() as u32
     }
