@@ -1,4 +1,4 @@
--- What calls do to a store in memory, which is honest.
+-- The effect of calls on a store in memory, which is honest.
 use Rattle.std.specs.Prelude.{◌≡◌, ℕ, List, length, Result, IsOk, OnOk, OnErr}
 use Rattle.iol_back.specs.Disk.{Disk, CanRead, Counts, IsSlot, OthersStay, Reads, Writes, content}
 

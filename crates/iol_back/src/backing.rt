@@ -1,4 +1,4 @@
-//! What a backing store is.
+//! Backing stores.
 ghost use Rattle.std.specs.Prelude.{◌≡◌};
 ghost use Rattle.iol_back.specs.Disk.{Disk, IsHonestLength, ReadsAt, WritesAt, length_reported};
 

@@ -65,7 +65,7 @@ impl<R: Files> FolderBacking<R> {
         self.listing.count()
     }
 
-    /// The name of the file behind a slot.
+    /// The name of the file of a slot.
     pub fn name(&self, slot: FileId) -> Option<&str>
         ensures which { IsSome result ↔ ((0 < slot) × (slot ≤ length self.now.names)) }
         ensures name { IfSome result (λ name. slice_get self.now.names (slot - 1) ≡ Some name.now) }
