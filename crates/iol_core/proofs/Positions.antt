@@ -45,7 +45,7 @@ IsWithin s x = (f at : ℕ) (mode : Mode) → x ≡ on.File f at mode → IsPlac
 abbrev AreWithin : State → List (Option Descriptor) → Type 0
 AreWithin s xs = (fd f at : ℕ) (mode : Mode) → in_place xs fd ≡ Some (on.File f at mode) → IsPlace s f at
 
--- each file still exists, and none is shorter
+-- each file still exists, and is no shorter
 record Grows (s t : State) : Type 0 where
   slots : length t.slots ≡ length s.slots
   few : length s.files ≤ MAX_FILES → length t.files ≤ MAX_FILES
