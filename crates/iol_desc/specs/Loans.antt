@@ -1,4 +1,4 @@
--- Places and entries after a value of theirs was borrowed.
+-- Places and entries after one of their values was borrowed.
 use Rattle.std.specs.Prelude.{ℕ, Option, Some, slice_set}
 use Rattle.std.specs.contracts.option.Option as option
 use Rattle.std.specs.Borrow.{Lends, Fml, MutBor, RattleType}
