@@ -1,4 +1,4 @@
--- What indexes are sorted by.
+-- The ranks by which indexes are sorted.
 use Rattle.std.specs.Prelude.{◌≡◌, ◌<◌, ◌≤◌}
 use Rattle.iol_evict.specs.declared.entry.Entry.{Entry}
 use Rattle.iol_evict.specs.declared.entry.Rank.{Rank}
