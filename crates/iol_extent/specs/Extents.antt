@@ -52,7 +52,7 @@ abbrev pub cell_at : Extent → ℕ → Cell
 cell_at e i =
     record { place = slice_index_or (places e.parts) (i - e.at) no_place; dirty = e.dirty }
 
--- an extent as `over` gives it, and what it has at byte i
+-- an extent as `over` returns it, and its cell at byte i
 abbrev pub extent_in : ℕ × Bor (List Slice) × Bool → Extent
 extent_in found = extent_of found.0 found.1.now found.2
 

@@ -108,7 +108,7 @@ impl Extents {
         ensures count { result ≡ dirty_count self.now.extents }
         ensures few { result ≤ length self.now.extents }
     {
-        // Brings the bound of the count.
+        // Shows the bound of the count.
         let _count = self.pieces.len();
         self.dirty
     }
