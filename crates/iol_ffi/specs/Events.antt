@@ -71,8 +71,7 @@ IsEvent (event.Transmit conn max) e bs ns = (e.kind ≡ 103) × (conn ≡ e.id) 
 IsEvent event.Flush e bs ns = e.kind ≡ 104
 IsEvent event.DropClean e bs ns = e.kind ≡ 105
 
--- the event of a request: that which it has, or one of the bytes that C passed, or one whose bytes are written to C's
--- memory
+-- the event of a request: its own event, one with the bytes that C passed, or one whose bytes are written to C's memory
 abbrev pub event_with : Request → (bytes : List ℕ) → Event
 event_with (request.Event e) bs = e
 event_with (request.AggMake by) bs = event.Call by (call.AggMake bs)

@@ -29,11 +29,11 @@ abbrev pub NeedsNoneIn : Request → Option Machine → Type 0
 NeedsNoneIn q (Some m) = NeedsNone q m.system
 NeedsNoneIn q None = ⊥
 
--- what C passed needs no memory in this state
+-- the event that C passed needs no memory in this state
 abbrev pub NeedsNoMemory : IolEvent → Option Machine → Type 0
 NeedsNoMemory e (Some m) = (e.kind ≡ 14) ⊎ ((e.kind ≡ 25) × ReadsNoFile e.by e.id e.from m.system)
 NeedsNoMemory e None = ⊥
 
--- the request needs none if what C passed needs none
+-- the request needs none if the event that C passed needs none
 abbrev pub NeedsAsPassed : IolEvent → Request → Type 0
 NeedsAsPassed e q = (o : Option Machine) → NeedsNoMemory e o → NeedsNoneIn q o

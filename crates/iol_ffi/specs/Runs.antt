@@ -13,7 +13,7 @@ use Rattle.iol_ffi.specs.declared.Machine.{Machine}
 use Rattle.iol_ffi.specs.declared.events.IolEvent.{IolEvent}
 use Rattle.iol_ffi.specs.declared.replies.IolReply.{IolReply}
 
--- one call of `iol_step`: what C passed, and what it got
+-- one call of `iol_step`: its arguments and its results
 pub record StepCall : Type 0 where
   pub event : IolEvent
   pub bytes : List ℕ
@@ -34,8 +34,8 @@ Denote (c ∷ cs) es rs = (IsReason c.event c.bytes c.names c.reply (length c.ou
     ⊎ ((e : Event) × (r : Reply) × (later : List Event) × (more : List Reply) × (es ≡ e ∷ later) × (rs ≡ r ∷ more)
     × IsEvent e c.event c.bytes c.names × Encodes r c.reply c.out × Denote cs later more)
 
--- What C did and got is a run: a chain of steps that keep all promises, and over an honest store a run of the copying
--- machine.
+-- The effect of the calls and the replies that C got are a run: a chain of steps that keep all promises, and over an
+-- honest store a run of the copying machine.
 pub record IsRun (old : Machine) (cs : List StepCall) (new : Machine) : Type 0 where
   pub events : List Event
   pub replies : List Reply

@@ -1,4 +1,4 @@
--- What one call of `iol_step` does.
+-- The effect of one call of `iol_step`.
 use Rattle.std.specs.Prelude.{◌≡◌, ◌⊎◌, ◌≤◌, ℕ, List, length, Option, Some, ◌≢◌}
 use Rattle.iol_core.specs.declared.events.Event.{Event}
 use Rattle.iol_core.specs.declared.events.Reply.{Reply}

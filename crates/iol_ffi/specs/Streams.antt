@@ -40,7 +40,7 @@ pub record Arrives (conn : ℕ) (fd : ℤ) (max : ℕ) (r : IolReply) (old new :
   pub serves : ServesReader conn max old new reader after None None outcome
   pub says : SaysArrived outcome r
 
--- the same record, opaque to the prover, so that it is passed on whole
+-- the same record, not unfolded by the prover, so that it is passed on whole
 unfoldable pub ArrivesBetween : (conn : ℕ) → (fd : ℤ) → (max : ℕ) → IolReply → (old new : SystemState) → Type 0
 ArrivesBetween conn fd max r old new = Arrives conn fd max r old new
 

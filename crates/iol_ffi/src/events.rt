@@ -25,8 +25,8 @@ pub struct IolEvent {
     pub until: u32,
 }
 
-/// What C requests. If it is not an event, it is one of the bytes that C passed, or one whose bytes
-/// are written to C's memory. These bytes are not copied into a list.
+/// The request of C. If it is not an event, it is one of the bytes that C passed, or one whose
+/// bytes are written to C's memory. These bytes are not copied into a list.
 #[derive(Drop)]
 pub(crate) enum Request {
     Event(Event),

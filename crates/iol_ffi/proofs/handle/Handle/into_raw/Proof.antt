@@ -1,4 +1,4 @@
--- `into_raw` moves two fields, and what they own goes with them.
+-- `into_raw` moves two fields, with all that they own.
 use mathlib.Core.Path.{◌≡◌, refl, sym, subst}
 use mathlib.Core.Bool.{Bool, true, false}
 use Rattle.std.specs.Prelude.{Option, Some, None, IsSome, IfSome}

@@ -1,4 +1,4 @@
--- `of_raw` moves two fields, and what they own goes with them.
+-- `of_raw` moves two fields, with all that they own.
 use mathlib.Core.Path.{refl, sym, subst}
 use Rattle.std.specs.Prelude.{Some}
 use mathlib.Core.List.{List, [], ◌∷◌, ◌++◌}
