@@ -45,7 +45,7 @@ impl Store {
         requires { chunk < chunk_count self.now.arena }
         ensures { result ≡ length (reclaimable_in self.now spared.now (chunk ∷ [])) }
     {
-        // Shows how many pages there are.
+        // Shows the number of pages.
         let _pages = self.arena.page_count();
         let mut count = 0;
         for i in 0..CHUNK {
