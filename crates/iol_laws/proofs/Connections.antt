@@ -124,7 +124,7 @@ conn-missing s c x none over =
     ap (λ b. unwrap_or (lookup (if b then without s.conns c else changed s.conns c x) c) no_conn) over
     ∙ ap (λ (o : Option Connection). unwrap_or o no_conn) (changed-none s.conns c c x none)
 
--- a connection that changes becomes what remains of its new value
+-- a connection that is set has its new value, or is removed if that is over
 pub conn-remains : (s : State) (c : ℕ) (x : Connection) → Once s.conns
     → (is_over x ≡ false → conn_at (with_conn s c x) c ≡ x) → conn_at (with_conn s c x) c ≡ remains x
 conn-remains s c x once there = by (is_over x) refl

@@ -69,7 +69,7 @@ pub record LabelsFollow : Type 0 where
   pub fresh : (pools : ℕ → Bool) (p : ℕ) (bytes : List ℕ) → IsTrue (pools p) → IsTrue (lie_in pools (labelled p bytes))
   pub both : (pools : ℕ → Bool) (x y : Text) → IsTrue (lie_in pools x) → IsTrue (lie_in pools y)
       → IsTrue (lie_in pools (x ++ y))
-  -- a domain that may read all these pools is never denied bytes in them, and gets all bytes that it asks for
+  -- a domain that may read all these pools is never denied bytes in them, and gets all bytes that it requests
   pub reads : (pools : ℕ → Bool) (s t : State) (d fd p n q : ℕ) → MayReadAll s d pools
       → IsTrue (lie_in pools (pipe_at s p).queue) → descriptor s d fd ≡ Some (on.ReadEnd p)
       → ¬ StepsTo s (event.Call d (call.IolRead fd n)) (reply.Refused (Denied q)) t

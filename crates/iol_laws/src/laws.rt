@@ -110,7 +110,7 @@ pub fn refusals_that_are_left()
 {}
 
 /// A domain gets an aggregate only under a number in a reply, to its own call or to a call that
-/// gives it away. An aggregate that it consumes is gone.
+/// gives it away. An aggregate that it consumes is removed.
 pub fn aggregates_come_and_go()
     ensures { AggregatesComeAndGo }
 {}
@@ -127,10 +127,10 @@ pub fn arrivals_lie_in_their_pool()
     ensures { ArrivalsLieInTheirPool }
 {}
 
-/// Bytes keep the pool in which they were created when they are cut, joined, passed on or read.
-/// The result of a call, and the bytes written to a pipe, are in the pools of their source. So a
-/// domain that may read these pools is never denied a read of the pipe, and gets all bytes that it
-/// asks for.
+/// Bytes keep the pool in which they were created when they are cut, joined, passed on or read. The
+/// result of a call, and the bytes written to a pipe, are in the pools of their source. So a domain
+/// that may read these pools is never denied a read of the pipe, and gets all bytes that it
+/// requests.
 pub fn labels_follow()
     ensures { LabelsFollow }
 {}

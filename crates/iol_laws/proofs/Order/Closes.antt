@@ -43,7 +43,7 @@ unfolding with_pipe
 once-closed_on s (Some (on.Connection c)) once = once-with_conn s c _ once
 once-closed_on s o once = once
 
--- what remains of a connection that is closed
+-- a connection after it is closed: it is removed if it is over
 abbrev pub shut_as : Connection → Connection
 shut_as k = remains (record k { incoming = []; closed = true })
 
