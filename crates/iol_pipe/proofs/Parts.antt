@@ -263,7 +263,7 @@ take_while-any s [] = refl
 take_while-any s (q ∷ qs) = take_while-cons (λ (p : Place). names_given s.pools None p.pool) q qs
     ∙ ap (λ t. q ∷ t) (take_while-any s qs)
 
--- what is left behind the first n
+-- the places after the first n
 pub left_behind : (n : ℕ) (given new old : List Place) → given ++ new ≡ old → given ≡ take n old → new ≡ drop n old
 left_behind n given new old whole first =
     append_cancel_left given new (drop n old) (whole ∙ sym (take-append-drop n old)

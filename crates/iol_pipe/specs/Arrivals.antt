@@ -19,7 +19,7 @@ use Rattle.iol_hold.specs.declared.slices.Slice.{Slice}
 use Rattle.iol_pipe.specs.NewBytes.{AddsBytes}
 use Rattle.iol_pipe.specs.declared.arrive.Arrived.{Arrived}
 
--- A reader gave n of its remaining bytes, where these are known, and the queue got them. If it gave none, no generation
+-- A reader gave n of its remaining bytes, if these are known, and the queue got them. If it gave none, no generation
 -- was incremented, and the pages are free again.
 pub record ReadsIn (left after : Option (List ℕ)) (s t : Stored) (old new : List Slice) (pool n : ℕ) : Type 0 where
   pub bytes : List ℕ
@@ -32,7 +32,7 @@ abbrev pub listed : Option (List Buffer) → List Buffer
 listed None = []
 listed (Some holds) = holds
 
--- A reader gave n of its remaining bytes, where these are known, and they are stored in a new buffer of the pool. If it
+-- A reader gave n of its remaining bytes, if these are known, and they are stored in a new buffer of the pool. If it
 -- gave none, there is no buffer: no generation was incremented, and the pages are free again.
 pub record MakesRead (left after : Option (List ℕ)) (s t : Stored) (holds : List Buffer) (pool n : ℕ) : Type 0 where
   pub bytes : List ℕ

@@ -1,4 +1,4 @@
-//! The first bytes of a queue, whoever may read them.
+//! The first bytes of a queue, taken or released without a test of access.
 ghost use Rattle.std.specs.Prelude.{◌≡◌, length, drop, min, slice_index_or, ◌↔◌, ◌<◌, ◌≤◌, IsSome, IfSome, IsOk, IfOk, OnErr};
 ghost use Rattle.iol_hold.specs.Prelude.{Covers, IsCountable, Releases, places, byte_len, bufs_of};
 ghost use Rattle.iol_pipe.specs.Queue.{CutsFirst};

@@ -4,7 +4,7 @@ use Rattle.iol_hold.specs.declared.slices.Slice.{Slice}
 use Rattle.iol_hold.proofs.SlicePlaces.{byte_len-cons}
 use Rattle.iol_pipe.proofs.Pipe.take_off.Goals as goal
 
--- where no byte is asked for, or none waits, no slice is wanted
+-- if no byte is requested, or none is queued, no slice is needed
 no_slice : (xs : List Slice) (n k : ℕ) → min n (byte_len xs) ≡ 0 → k ≡ min (length xs) n → k ≡ 0
 no_slice [] n k e is = omega (arith, is)
 no_slice (x ∷ xs) n k e is = omega (arith, e, is, byte_len-cons x xs, x.some)
