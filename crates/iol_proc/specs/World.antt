@@ -67,7 +67,7 @@ abbrev pub SitsAt : {P : Type 0} → List (ProcessSlot P) → (by place : ℕ) �
 SitsAt process_slots by place = IfSome (slice_get process_slots place) (λ process_slot. process_slot.by ≡ by)
     × (place < length process_slots)
 
--- what the process did in a turn: whether it yielded, and the reply
+-- the activity of a process in a turn: whether it yielded, and the reply
 abbrev pub activity_of : (yields : Bool) → Reply → Activity
 activity_of yields r = if yields then Yields else (if is_would_block r then Waits else Acts)
 

@@ -1,6 +1,6 @@
-//! What a process does in a turn.
+//! The activity of a process in a turn.
 
-/// What a process did in a turn.
+/// The activity of a process in a turn.
 #[derive(Clone, Copy, Debug, PartialEq, Eq)]
 pub enum Activity {
     /// It yielded.
