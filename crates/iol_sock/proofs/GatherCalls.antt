@@ -47,7 +47,7 @@ module _ {G : Type 0} (gathers : G → List ℕ → ℕ → G → Type 0) where
   one_whole a b d offered n before call some whole =
       then_whole a b before.0 (record { offered = offered; taken = n; after = d }) before.1 call some whole
 
-  -- A relation that each call preserves is preserved.
+  -- A reflexive and transitive relation that holds for each call holds for all calls together.
   module _ (R : G → G → Type 0) (same : (a : G) → R a a) (then' : (a b d : G) → R a b → R b d
       → R a d) (each : (a : G) (offered : List ℕ) (n : ℕ) (b : G) → gathers a offered n b → R a b) where
     all_keep : (a b : G) (calls : List (Gathering G)) → AreCalls gathers a calls b → R a b

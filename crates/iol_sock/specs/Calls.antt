@@ -1,4 +1,4 @@
--- What each call does to a connection: x before and y after, over the store s before and t after.
+-- The effect of each call on a connection, from x to y, over the store from s to t.
 use Rattle.std.specs.Prelude.{◌≡◌, ◌≢◌, ◌≤◌, ℕ, ◌-◌, ◌++◌, [], true, List, length, min, take, take_while, drop}
 use Rattle.std.specs.Prelude.{Option, Result, Err, IsOk, IfOk, IfErr, OnOk, OnErr}
 use Rattle.iol_core.specs.Prelude.{WantOfMemory, WantOfRoom, bytes_of, checksum as checksum_of}
@@ -38,8 +38,8 @@ pub record Arrives (s t : Stored) (x y : Conn (List Slice)) (bytes : List ℕ) (
 abbrev pub most_read : Conn (List Slice) → (max : ℕ) → ℕ
 most_read x max = min (min max PAGE_BYTES) (MAX_QUEUE_BYTES - byte_len x.incoming)
 
--- The bytes of one read arrive: the first of the reader's remaining bytes, where these are known. The call is refused
--- by the first refusal that holds, else only for lack of room or memory, and a refusal changes nothing, the reader
+-- The bytes of one read arrive: the first of the reader's remaining bytes, if these are known. The call is refused by
+-- the first refusal that holds, else only for lack of room or memory, and a refusal changes nothing, the reader
 -- included.
 pub record ArrivesFrom {R : Type 0} (remaining : R → Option (List ℕ)) (reader after : R) (s t : Stored)
     (x y : Conn (List Slice))

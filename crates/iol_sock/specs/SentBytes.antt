@@ -50,8 +50,8 @@ pub record Sends {E : Type 0} (s t : Stored) (old new : List Slice) (n : ℕ) (s
   pub err : OnErr r ((new ≡ old) × (t ≡ s) × (summed ≡ sums))
 
 -- The first bytes of a queue, at most max, were passed to a writer. It took all of them; or `failed` is reported, and
--- it took fewer. The taken bytes are appended to its contents, where these are known. That a write failed is not
--- stated: the contract of `Write` does not say when it fails.
+-- it took fewer. The taken bytes are appended to its contents, if these are known. That a write failed is not stated:
+-- the contract of `Write` does not say when it fails.
 pub record Writes {W : Type 0} (contents : W → Option (List ℕ)) (writer after : W) (s : Stored) (queue : List Slice)
     (max : ℕ)
     (d : Drained) : Type 0 where

@@ -15,7 +15,7 @@ use iol_pipe::Pipe;
 pub trait Gather {
     ghost use Rattle.std.specs.Prelude.{Option, List, ℕ, None};
 
-    /// The bytes that it holds, where they are known.
+    /// The bytes that it holds, if they are known.
     ghost contents: { Self → Option (List ℕ) } = { λ _. None };
 
     /// One call: from the first state it was offered these bytes, took that many, and is in the last state.
