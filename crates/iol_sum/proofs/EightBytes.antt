@@ -30,7 +30,7 @@ first_chunks-at (suc k) (suc i) xs d h =
     ∙ ap (λ n. take 8 (drop n xs)) e
 first_chunks-at zero i xs d h = absurd (omega arith)
 
--- one byte more of the last few, each of which is in turn the first and the second of its word
+-- one more of the last few bytes, which are alternately the first and the second of their words
 pub folded-first : (t b : ℕ) (ys : List ℕ)
     → folded (256 * (t + b) + word_sum (0 ∷ ys)) ≡ folded (256 * t + word_sum (b ∷ ys))
 folded-first t b [] = ap folded (omega arith)

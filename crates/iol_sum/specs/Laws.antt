@@ -9,7 +9,7 @@ use Rattle.iol_sum.specs.Sums.{Sums, IsRight}
 abbrev pub StayRight : Type 0
 StayRight = (old new : State) (c : Sums) → Keeps old new → IsRight old c → IsRight new c
 
--- over calls that take and give up references
+-- over calls that take and release references
 abbrev pub StayRightAsHoldsMove : Type 0
 StayRightAsHoldsMove = (old new : Stored) (c : Sums) → Stays old new → IsRight old.arena c → IsRight new.arena c
 

@@ -4,8 +4,8 @@ ghost use Rattle.iol_core.specs.Prelude.{folded};
 ghost use Rattle.iol_sum.specs.Pieces.{IsSumOf};
 
 // Folds a total into 16 bits: carries are added at the low end (RFC 1071, section 1), which is the
-// remainder by 65535, but 65535 where that is 0 and the total is not. 2^64 is one more than a
-// multiple of 65535, so the halves add.
+// remainder by 65535, but 65535 if that is 0 and the total is not. 2^64 is one more than a multiple
+// of 65535, so the halves add.
 fn fold(total: u128) -> u16
     ensures { result ≡ folded total }
 {
