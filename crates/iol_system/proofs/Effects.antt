@@ -270,7 +270,7 @@ plain_of e is = record {
   late = λ o x n. tt;
 }
 
--- A plain event, carried out by a call of this meaning, whose reply reports a file's end and what it creates.
+-- A plain event, carried out by a call of this meaning. Its reply reports a file's end and the objects that it creates.
 module _ {A : Type 0} (f : A → Reply) (m : State → Meaning A) {e : Event} {disk : Disk} {old new : KernelState}
     {r : Result A Refusal} (reports : Reports f) (is : is_plain e ≡ true) (means : Means f m e)
     (ends : ReportsEnd (system_of old disk) e (reported f r)) (creates : Creates old e (reported f r) new) where
@@ -402,13 +402,13 @@ pub as_call : {by : ℕ} {j k : Call} {disk after : Disk} {old new : KernelState
     → Does disk old (event.Call by k) x after new → Does disk old (event.Call by j) y after new
 as_call {by} is reports does = as_event (ap (λ k. event.Call by k) is) reports does
 
--- what `pool_admit` creates: one more domain in the pool's list
+-- `pool_admit` adds one domain to the pool's list
 pub domain_admitted : (by p d : ℕ) (old new : KernelState) (r : Result (Unit {0}) Refusal)
     → OnOk r (new ≡ with_reader old p d) → Creates old (event.Call by (call.PoolAdmit p d)) (reported done r) new
 domain_admitted by p d old new (Ok u) same = same
 domain_admitted by p d old new (Err x) same = tt
 
--- what `file_new` creates: one more file
+-- `file_new` adds one file
 pub file_created : (disk : Disk) (m : State → Meaning ℕ) (by p : ℕ) (name : List ℕ) (old new : KernelState)
     (r : Result ℕ Refusal) → Names disk m old r new
     → Creates old (event.Call by (call.FileNew name p)) (reported reply.File r) new

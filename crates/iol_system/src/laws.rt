@@ -85,7 +85,7 @@ pub fn runs_keep_values()
     ensures { RunsKeepValues }
 {}
 
-/// A run of sharing calls copies nothing: the bytes that they hand on keep their places, and no
+/// A run of sharing calls copies nothing: the bytes that they pass on keep their places, and no
 /// page is published or freed.
 pub fn runs_share()
     ensures { RunsShare }

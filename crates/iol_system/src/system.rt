@@ -101,8 +101,8 @@ impl<B: Backing> System<B> {
 
     /// Executes one event completely, and replies. Its contract is one record, [`Promises`]
     /// (`specs/Promises.antt`): the reply of the copying machine; when Fault is returned, when
-    /// NoRoom and Memory may be, and the state after a refusal; the places of bytes afterwards; the
-    /// requests to the store, and its content; and the invariant.
+    /// NoRoom and Memory may be returned, and the state after a refusal; the places of bytes
+    /// afterwards; the requests to the store, and its content; and the invariant.
     pub fn step(&mut self, event: Event) -> Reply
         ensures { Promises self.old event result self.new }
     {
