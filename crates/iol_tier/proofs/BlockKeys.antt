@@ -275,7 +275,7 @@ put_right_becomes old mid skip e at place key x b e_low e_high low high filled f
           omega (arith, e_low, e_high, low, high, most, f, d, xl, apart, one_other at e apart, one_here at at refl)
     ]
 
--- the key to remove is in block `at`, and the keys that are left fill the blocks
+-- a key is removed from block `at`, if the keys that are left then fill the blocks
 taken_at : (old new : List Block) (skip more e at place : ℕ) (x b : Block) → at * 128 ≤ skip + place
     → skip + place < at * 128 + 128
     → AreFilled old skip (length (joined old)) → skip + length (joined old) ≤ length old * 128

@@ -1,4 +1,4 @@
-//! Moving keys over the borders between blocks.
+//! Moving keys across the borders between blocks.
 ghost use Rattle.std.specs.Prelude.{◌+◌, ◌-◌, ◌<◌, length};
 ghost use Rattle.iol_tier.specs.Blocks.{CanCross, CanShiftLeft, CanShiftRight, MovesPlace};
 
