@@ -19,7 +19,7 @@ use Rattle.iol_core.specs.declared.events.Event.TheVariants as event
 use Rattle.iol_core.specs.declared.events.Reply.{Reply}
 use Rattle.iol_core.specs.declared.events.Reply.TheVariants as reply
 
--- with the result as a reply
+-- the meaning with its result as a reply
 abbrev pub replied : {A : Type 0} → (A → Reply) → Meaning A → Meaning Reply
 replied f m = record { refusals = m.refusals; Late = m.Late; answer = f m.answer; after = m.after }
 
