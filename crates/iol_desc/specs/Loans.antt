@@ -8,7 +8,7 @@ use Rattle.iol_desc.specs.EntryLists.{Listed}
 use Rattle.iol_desc.specs.contracts.entries.Entries as entries
 use Rattle.iol_desc.specs.contracts.places.Places.{the_row}
 
--- with x in a place
+-- the places with x in one of them
 abbrev pub with_place : {A : Type 0} → Slots A → (place : ℕ) → A → Slots A
 with_place s n x = record s { places = slice_set s.places n (Some x) }
 
@@ -20,7 +20,7 @@ LendsPlace T s n r = Lends (the_row T) T s r (with_place s.now n)
 abbrev pub LendsValue : (T : RattleType) → MutBor (Option T.Denot) → MutBor T.Denot → Fml
 LendsValue T s r = Lends (option.the_row T) T s r Some
 
--- with x as the value of a number
+-- the entries with x as the value of a number
 abbrev pub with_entry : {A : Type 0} → Listed A → (n : ℕ) → A → Listed A
 with_entry s n x = record s { entries = changed s.entries n x }
 

@@ -63,7 +63,7 @@ with_next d x = record d { aggs = d.aggs ++ (d.next_agg, x) ∷ []; next_agg = d
 abbrev pub with_agg_in : {A : Type 0} → List (Domain A) → (d : ℕ) → A → List (Domain A)
 with_agg_in ds d x = with_domain_in ds d (with_next (domain_in ds d) x)
 
--- without the domain's aggregate of this number
+-- the domains, without the aggregate of this number of domain d
 abbrev pub without_agg_in : {A : Type 0} → List (Domain A) → (d a : ℕ) → List (Domain A)
 without_agg_in ds d a = with_aggs_in ds d (without (domain_in ds d).aggs a)
 
@@ -71,7 +71,7 @@ without_agg_in ds d a = with_aggs_in ds d (without (domain_in ds d).aggs a)
 abbrev pub place_in : {A : Type 0} → List (ℕ × A) → (n : ℕ) → ℕ
 place_in es n = position_or_len (λ e. e.0 == n) es
 
--- with x as the value of the number
+-- the entries with x as the value of the number
 abbrev pub exchanged : {A : Type 0} → List (ℕ × A) → (n : ℕ) → A → List (ℕ × A)
 exchanged es n x = slice_set es (place_in es n) (n, x)
 
@@ -158,7 +158,7 @@ with_fd d fd x = record d { fds = slice_set d.fds fd (Some x) }
 abbrev pub with_fd_in : {A : Type 0} → List (Domain A) → (d fd : ℕ) → Descriptor → List (Domain A)
 with_fd_in ds d fd x = with_fds_in ds d (slice_set (fds_in ds d) fd (Some x))
 
--- with x open under the lowest free number
+-- the descriptors, with x open under the lowest free number
 abbrev pub with_next_fd : List (Option Descriptor) → Descriptor → List (Option Descriptor)
 with_next_fd fds x = placed fds (lowest fds) x
 
@@ -166,7 +166,7 @@ with_next_fd fds x = placed fds (lowest fds) x
 abbrev pub next_ends : List (Option Descriptor) → (pipe : ℕ) → ℕ × ℕ
 next_ends fds p = (lowest fds, lowest (with_read_end fds p))
 
--- with both ends of a pipe open, the read end first
+-- the descriptors, with both ends of a pipe open, the read end first
 abbrev pub with_ends : List (Option Descriptor) → (pipe : ℕ) → List (Option Descriptor)
 with_ends fds p = with_next_fd (with_read_end fds p) (on.WriteEnd p)
 
