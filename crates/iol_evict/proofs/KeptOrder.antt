@@ -13,7 +13,7 @@ use Rattle.iol_evict.specs.Indexes.{entry_of, rank_at, AreLive, IsIndex, IsRisin
 use Rattle.iol_evict.proofs.RankOrder.{le_other}
 use Rattle.iol_evict.proofs.Edits.{WasAt, insert-cases, remove-cases}
 
--- the same entries at these keys
+-- the slabs have the same entries at these keys
 pub record SameAt (s t : Slab Entry) (keys : List ℕ) : Type 0 where
   pub each : (i : ℕ) → i < length keys → get t (get_or keys i 0) ≡ get s (get_or keys i 0)
 
