@@ -152,12 +152,12 @@ cleaned_at (e ∷ es) at = if e.at == at then as_clean e ∷ es else e ∷ clean
 abbrev pub dirty_count : List Extent → ℕ
 dirty_count es = sum_by one_dirty es
 
--- with one more extent, in the order of places
+-- the extents with one more, in the order of places
 abbrev pub put_in : List Extent → Extent → List Extent
 put_in [] e = e ∷ []
 put_in (x ∷ xs) e = if nat_lt e.at x.at then e ∷ x ∷ xs else x ∷ put_in xs e
 
--- without the extent that begins at a place
+-- the extents without the one that begins at a place
 abbrev pub without_at : List Extent → (at : ℕ) → List Extent
 without_at [] at = []
 without_at (x ∷ xs) at = if x.at == at then xs else x ∷ without_at xs at
