@@ -1,4 +1,4 @@
--- What a handle owns: nothing, or the same as a `Box<Machine>`.
+-- The ownership of a handle: nothing, or the same as a `Box<Machine>`.
 use Rattle.std.specs.Prelude.{Option, Some, None}
 use base.Fml.{Fml, ftrue}
 use base.Stored.{Coded}

@@ -24,7 +24,7 @@ NeedsNone q s = ⊥
 abbrev pub IsNotMemory : Request → SystemState → IolReply → Type 0
 IsNotMemory q s r = NeedsNone q s → r.refusal ≢ 17
 
--- the same by the system in a handle
+-- likewise for the system in a handle
 abbrev pub NeedsNoneIn : Request → Option Machine → Type 0
 NeedsNoneIn q (Some m) = NeedsNone q m.system
 NeedsNoneIn q None = ⊥

@@ -48,7 +48,7 @@ pub record WritesBelow (k : ℕ) (parts : List Located) (skip : ℕ) (old new : 
       → HasPart p (slice_get new i)
   pub kept : (i : ℕ) → k ≤ skip + i → slice_get new i ≡ slice_get old i
 
--- the same of all parts, of which at most 2^64 - 1 are counted
+-- likewise for all parts, of which at most 2^64 - 1 are counted
 abbrev pub WritesParts : (parts : List Located) → (skip : ℕ) → (old new : List IolPart) → Type 0
 WritesParts parts skip old new = WritesBelow (min (length parts) 18446744073709551615) parts skip old new
 
@@ -63,7 +63,7 @@ pub record Borrows (by agg skip : ℕ) (h : KernelState) (r : IolReply) (old new
   pub lends : LocatesParts h by agg parts
   pub borrowed : IsBorrowed parts skip r old new
 
--- the same of the machine in a handle
+-- likewise for the machine in a handle
 abbrev pub BorrowsTo : (by agg skip : ℕ) → Option Machine → IolReply → (old new : List IolPart) → Type 0
 BorrowsTo by agg skip (Some m) r old new = Borrows by agg skip m.system.kernel r old new
 BorrowsTo by agg skip o r old new = ⊥

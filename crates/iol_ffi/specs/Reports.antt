@@ -23,7 +23,7 @@ pub record IsReported (h : KernelState) (r : IolReport) : Type 0 where
   pub reports : Reports h report
   pub counted : IsCounted report r
 
--- the same of the machine in a handle
+-- likewise for the machine in a handle
 abbrev pub ReportsTo : Option Machine → IolReport → Type 0
 ReportsTo (Some m) r = IsReported m.system.kernel r
 ReportsTo o r = ⊥

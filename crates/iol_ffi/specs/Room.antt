@@ -13,13 +13,13 @@ abbrev pub most_of_call : Call → ℕ
 most_of_call (call.Read fd count) = count
 most_of_call _ = 0
 
--- the same of an event
+-- likewise for an event
 abbrev pub most_bytes : Event → ℕ
 most_bytes (event.Call by c) = most_of_call c
 most_bytes (event.Transmit conn max) = max
 most_bytes _ = 0
 
--- the same of the event of a request, whatever the bytes that C passed
+-- likewise for the event of a request, for any bytes that C passed
 pub record IsMost (r : Request) (most : ℕ) : Type 0 where
   pub each : (bytes : List ℕ) → most ≡ most_bytes (event_with r bytes)
 

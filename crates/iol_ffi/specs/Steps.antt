@@ -20,7 +20,7 @@ pub record Executes (event : Event) (r : IolReply) (out : List ℕ) (old new : S
   pub encodes : Encodes reply r out
   pub fits : TakesBytes event → r.refusal ≢ 101
 
--- from one machine to the other, by this event and with this reply, all that a step promises
+-- a step from one machine to the other, by this event and with this reply, with all promises of a step
 abbrev pub Steps : Option Machine → Event → Reply → Option Machine → Type 0
 Steps (Some old) e r (Some new) = Promises old.system e r new.system
 Steps o e r n = ⊥

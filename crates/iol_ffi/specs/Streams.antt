@@ -10,7 +10,7 @@ use Rattle.iol_ffi.specs.declared.Machine.{Machine}
 use Rattle.iol_ffi.specs.declared.replies.IolReply.{IolReply}
 use Rattle.iol_ffi.specs.declared.streams.Descriptor.{Descriptor}
 
--- how a read ended: 2 if it failed, 1 at the reader's end, else 0
+-- the number for the end of a read: 2 if it failed, 1 at the reader's end, else 0
 abbrev pub ending_number : (end failed : Bool) → ℕ
 ending_number end true = 2
 ending_number true false = 1
@@ -53,7 +53,7 @@ pub record Drains (conn : ℕ) (fd : ℤ) (max : ℕ) (r : IolReply) (old new : 
   pub serves : ServesWriter conn max old new writer after None None outcome
   pub says : SaysDrained outcome r
 
--- the same of the machine in a handle
+-- likewise for the machine in a handle
 abbrev pub ArrivesFrom : (conn : ℕ) → (fd : ℤ) → (max : ℕ) → IolReply → (old new : Option Machine) → Type 0
 ArrivesFrom c fd max r (Some old) (Some new) = ArrivesBetween c fd max r old.system new.system
 ArrivesFrom c fd max r o n = ⊥
