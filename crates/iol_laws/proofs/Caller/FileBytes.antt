@@ -178,7 +178,7 @@ wrote s d fd f at mode bytes placed live is =
         domain-same s (with_content s f (laid_over (content s f) at bytes)) d
         (same-domains s f (laid_over (content s f) at bytes))
 
--- of the remaining tests of a write to a file only that for TooLong can refuse it
+-- only TooLong is left among the remaining refusals of a write to a file
 pub write-left : (s : State) (f at n : ℕ) (mode : Mode) → writing.writes mode ≡ true
     → first ((refuse.WrongMode when not (writing.writes mode)) ∷ (refuse.TooLong when nat_lt MAX_FILE_BYTES (at + n))
     ∷ (refuse.BrokenPipe when false) ∷ (refuse.WouldBlock when (nat_lt 0 n && (n == 0))) ∷ [])

@@ -92,7 +92,7 @@ denied-first may n q x is = by (min n 1) one q is
             ∙ found) in
             (b.1, sym x_is, b.0, q, refl, may_is)
 
--- of the refusals of a read of a queue, only those by its bytes are left
+-- a refusal of a read of a queue other than NoDomain, BadFd, WrongMode and TooMany is one by its bytes
 queue-said : (s : State) (d n : ℕ) (o : Option Descriptor) (live gone wrong many : Bool) (x : Refusal)
     → (refuse.NoDomain ≡ x → ⊥) → (refuse.BadFd ≡ x → ⊥) → (refuse.WrongMode ≡ x → ⊥) → (refuse.TooMany ≡ x → ⊥)
     → first ((refuse.NoDomain when live) ∷ (refuse.BadFd when gone) ∷ (refuse.WrongMode when wrong)
