@@ -33,13 +33,13 @@ pub record AddsWhole (s : Stored) (old new : List Slice) (holds : List Buffer) :
   pub added : new ≡ old ++ slices
   pub whole : AreWhole s slices holds
 
--- Of these slices a queue got the first n bytes at its end, shared: whole slices, of which only the last may be cut.
+-- A queue got the first n bytes of these slices at its end, shared: whole slices, of which only the last may be cut.
 pub record SharesPrefix (s t : Stored) (old new from : List Slice) (n : ℕ) : Type 0 where
   pub parts : map slice_places new ≡ map slice_places old ++ first_parts n (map slice_places from)
   pub added : places new ≡ places old ++ take n (places from)
   pub shares : Shares s t (bufs_of old) (bufs_of new)
 
--- Of the slices of an aggregate a queue got as many bytes as fit at its end: n. They are shared: the queue keeps its
+-- A queue got n bytes of the slices of an aggregate at its end, as many as fit. They are shared: the queue keeps its
 -- slices, and gets those of the aggregate, of which only the last may be cut.
 pub record SharesFitting (s t : Stored) (old new from : List Slice) (n : ℕ) : Type 0 where
   pub taken : n ≡ fitting old (byte_len from)
@@ -47,7 +47,7 @@ pub record SharesFitting (s t : Stored) (old new from : List Slice) (n : ℕ) : 
   pub added : places new ≡ places old ++ take n (places from)
   pub shares : Shares s t (bufs_of old) (bufs_of new)
 
--- Of new bytes of the pool a queue got as many as fit at its end: n.
+-- A queue got n new bytes of the pool at its end, as many as fit.
 pub record AddsFitting (s t : Stored) (old new : List Slice) (pool : ℕ) (bytes : List ℕ) (n : ℕ) : Type 0 where
   pub taken : n ≡ fitting old (length bytes)
   pub added : AddsBytes s t old new pool (take n bytes)
