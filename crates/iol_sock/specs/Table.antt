@@ -27,7 +27,7 @@ no_conn = record { pool = 0; incoming = []; outgoing = []; accepted = true; clos
 unfoldable pub conn_in : List (ℕ × Conn (List Slice)) → (c : ℕ) → Conn (List Slice)
 conn_in conns c = unwrap_or (lookup conns c) no_conn
 
--- with x as the connection of that number
+-- the table with x as the connection of that number
 abbrev pub with_conn : ConnTable → (c : ℕ) → Conn (List Slice) → ConnTable
 with_conn t c x = record t { conns = changed t.conns c x }
 
