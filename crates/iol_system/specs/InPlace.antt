@@ -50,7 +50,7 @@ ReadWantsMore s (Some (on.File f at mode)) n p = (p ≡ pool_of_file s.kernel f)
     × LacksPagesToRead f at n s.disk (holding_of s.kernel)
 ReadWantsMore s o n p = ⊥
 
--- a write of slices to a file needs more pages of the file's pool than are free, for copies of those of other pools
+-- a write of slices to a file needs more pages of the file's pool than are free, to copy the slices of other pools
 abbrev pub WriteWantsMore : KernelState → Option Descriptor → List Slice → (p : ℕ) → Type 0
 WriteWantsMore h (Some (on.File f at mode)) xs p = (p ≡ pool_of_file h f) × LacksPages h p (copied_pages p xs)
 WriteWantsMore h o xs p = ⊥
