@@ -80,7 +80,7 @@ pub record HasPlace (old new : Block) : Type 0 where
 
 -- All blocks.
 
--- The same keys, of which one moved over each border between two blocks: block `to` has one more, block `from` one
+-- The same keys, of which one moved across each border between two blocks: block `to` has one more, block `from` one
 -- less.
 pub record Shifts (to from : ℕ) (old new : List Block) : Type 0 where
   pub keys : joined new ≡ joined old
