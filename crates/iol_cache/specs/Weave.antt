@@ -1,4 +1,4 @@
--- A range of a file: the bytes beside its gaps, which were shared first, and those of its gaps.
+-- A range of a file: the bytes outside its gaps, which were shared first, and those of its gaps.
 use Rattle.std.specs.Prelude.{◌≡◌, ℕ, ◌+◌, ◌-◌, ◌<◌, ◌≤◌, ◌^◌, All, List, [], ◌∷◌, ◌++◌, take, drop, slice_range}
 use Rattle.iol_agg.specs.Pours.{meeting}
 use Rattle.iol_extent.specs.Extents.{Extent}

@@ -1,4 +1,4 @@
--- What an eviction leaves.
+-- The state after an eviction.
 use Rattle.std.proofs.Common.{inl, inr, ◌≡◌, ℕ, ◌+◌, ◌-◌, ◌<◌, ◌≤◌, Bool, false, cond, List, [], flat_map, length, set}
 use Rattle.std.proofs.Common.{Option, Some, IfSome, sym, ap, ◌∙◌, arith, subst}
 use Rattle.std.proofs.lemmas.Bool.{cases_eq}
@@ -194,7 +194,7 @@ sound_evicted old new f at sound gone unmarks =
       still = moves.still sound.still;
     }
 
--- What the code leaves.
+-- The code's results, by the definitions.
 
 pub given_is : (es : List Extent) (at : ℕ) (e : Extent) (xs : List Slice) → begins_at es at ≡ Some e
     → IfSome (begins_at es at) (λ (x : Extent). xs ≡ x.parts) → xs ≡ e.parts

@@ -35,7 +35,7 @@ none_begins fs f at e none h =
     let g : begins_at (extents_in fs f) at ≡ None = ap (λ (x : CachedFile). begins_at x.extents.extents at) none in
     cc
 
--- a file that has an extent stands
+-- a file that has an extent is a file of the cache
 pub begins_numbered : (fs : List CachedFile) (f at : ℕ) (e : Extent) → begins_at (extents_in fs f) at ≡ Some e
     → is_numbered fs f ≡ true
 begins_numbered fs f at e h = pick (is_numbered fs f) refl where

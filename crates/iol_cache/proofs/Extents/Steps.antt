@@ -95,7 +95,7 @@ goes_cache d own s c e count pools extents same = record {
   files = λ honest h. record { each = λ f. ap (file_bytes (byte_in s) (content d.slots f)) (extents f) };
 }
 
--- only the store went on: of what others hold, some went and some came
+-- only the store changed: of the references that others have, some were released and some were taken
 pub goes_moved : (d : Disk) (own more gone come : List BufId) (s t : Stored) (c : Cached)
     → ((x : BufId) → tally x own + tally x come ≡ tally x gone + tally x more) → IsSound s c → Moves s t gone come
     → Covers t (held c.files) → SameLists s t → (AllReclaimed s → AllReclaimed t)

@@ -1,4 +1,4 @@
--- The first dirty extent, which becomes clean where it stands.
+-- The first dirty extent, which becomes clean in its place.
 use Rattle.std.proofs.Common.{◌≡◌, ◌∙◌, ℕ, ◌<◌, Bool, true, false, cond, eqb, List, [], ◌∷◌, Some, IsSome, refl, sym}
 use Rattle.std.proofs.Common.{ap, arith, subst}
 use Rattle.std.specs.Prelude.{not, ◌&&◌}
