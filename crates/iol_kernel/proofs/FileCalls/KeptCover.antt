@@ -1,4 +1,4 @@
--- What lies over the bytes of files, where clean extents of one pool may have given way.
+-- The extents over the bytes of files, after clean extents of one pool may have been evicted.
 use Rattle.std.proofs.Common.{inl, inr, ◌≡◌, ◌⊎◌, ◌∙◌, ℕ, zero, suc, ◌+◌, ◌<◌, ◌≤◌, true, false, List, [], ◌∷◌, length}
 use Rattle.std.proofs.Common.{Option, None, Some, refl, sym, ap, subst}
 use Rattle.std.proofs.lemmas.Bool.{cases_eq, cases_lt}
@@ -99,7 +99,7 @@ pub drop_keeps : (n : ℕ) (old new : Holding) → EvictsPools n old new → Are
     → KeepsDirty old.cache new.cache
 drop_keeps n old new is apart = (pools_keep n old new is apart).0
 
--- Where enough pages are free nothing gives way, and else only what is clean, in one pool.
+-- If enough pages are free no extent is evicted, and otherwise only clean ones, of one pool.
 
 module _ (p free wanted : ℕ) (Lacks : Type 0) (old new : Cached) (lacks : free < wanted → Lacks) (others : (g : ℕ)
     → ((file_in old.files g).pool ≡ p → ⊥) → extents_in new.files g ≡ extents_in old.files g) where
@@ -164,7 +164,7 @@ module _ (f from to : ℕ) (old hit : Holding) (pins : List Slice) (gaps : List 
       (λ (ps : List Pool). length (free_pages old.store.arena (pool_in ps (file_in old.cache.files f).pool).chunks))
       x.shares.pools
 
-  -- what goes for its gaps goes from its pool
+  -- the extents that are evicted for its gaps are of its pool
   hit_other : (mid : Holding) → EvictsAll (file_in hit.cache.files f).pool (Some (gap_pages gaps)) hit mid → (g : ℕ)
       → ((file_in old.cache.files g).pool ≡ (file_in old.cache.files f).pool → ⊥)
       → extents_in mid.cache.files g ≡ extents_in old.cache.files g
@@ -308,7 +308,7 @@ module _ (h : KernelState) (f at : ℕ) (source : List Slice) (new : Holding) (f
 
 -- One after the other.
 
--- pages were wanting nowhere, so all stays
+-- no pages were lacking, so all cells are unchanged
 pub beside_none : (f at n m p q : ℕ) (Lacks : Type 0) (old new : Cached) → n ≡ m → (Lacks → ⊥)
     → KeepsBeside f at n p Lacks old new → KeepsBeside f at m q ⊥ old new
 beside_none f at n m p q Lacks old new same none keeps = record {

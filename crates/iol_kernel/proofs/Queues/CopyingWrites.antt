@@ -1,4 +1,4 @@
--- Bytes are written by copying, or refused before anything was done.
+-- Bytes are written by copying, or refused before any effect.
 use Rattle.std.proofs.Common.{◌≡◌, ◌⊎◌, ℕ, Bool, true, false, List, [], ◌∷◌, length, Option, Some, None, ap, sym, inl}
 use Rattle.std.proofs.Common.{inr}
 use Rattle.std.specs.Prelude.{◌&&◌, IfErr, MatchOption, Result, Ok, Err, is_none, not}
@@ -21,7 +21,7 @@ first_holds : (o : Option Refusal) (x : Refusal) → MatchOption o (Never x) (λ
 first_holds None x none = absurd none
 first_holds (Some y) x is = ap (λ (z : Refusal). Some z) (sym is)
 
--- The tests of a write are not for memory.
+-- None of the tests of a write gives Memory.
 
 four_tests : (p : ℕ) (a b c d : Bool)
     → first ((TooLong when a) ∷ (PoolClosed p when b) ∷ (BrokenPipe when c) ∷ (WouldBlock when d) ∷ []) ≡ Some Memory

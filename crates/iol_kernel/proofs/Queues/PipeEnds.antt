@@ -83,7 +83,7 @@ length-placed qs x few free = elim (cases_lt (lowest qs) (length qs)) [
       omega (arith, ap length p, length-append qs (Some x ∷ []), lowest_few qs, k, free))
 ]
 
--- its ends are open there alone
+-- its ends are open only there
 once_piped : (h : KernelState) (d : ℕ) → IsSound h → (domain_in h.domains d).live ≡ true
     → IsOpenOnce (with_fds_in h.domains d (with_ends (domain_in h.domains d).fds (lowest h.pipes)))
 once_piped h d sound live =
@@ -204,7 +204,7 @@ freed-alone h ds d fd x sound live there is = (end_alone x [] ds once).0
       ends-freed x x (domain_in h.domains d).fds fd there,
     )
 
--- what it is open on
+-- the object of a descriptor
 
 pub end_held : (f : Reading) (h : KernelState) (d fd : ℕ) (x : Descriptor) → IsSound h
     → machine.descriptor (read_of f h) d fd ≡ Some x → IsOpenEnd (objects_of h) (Some x)
