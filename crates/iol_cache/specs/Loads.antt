@@ -48,7 +48,7 @@ pub record WritesFilling (f g : Fill) : Type 0 where
   pub fills : Fills (filling_store f) (filling_store g) (filling_parts f)
   pub entries : (filling_store g).arena.entries ≡ (filling_store f).arena.entries
 
--- At most `left` bytes of a file were read into part i of a filling. Where an honest store did not fail, they are those
+-- At most `left` bytes of a file were read into part i of a filling. If an honest store did not fail, they are those
 -- of the file from `at` on.
 pub record ReadsPart {E : Type 0} (f g : Fill) (i left : ℕ) (disk : Disk) (file at : ℕ) (r : Result ℕ E) : Type 0 where
   pub writes : WritesFilling f g

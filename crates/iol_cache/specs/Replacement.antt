@@ -88,7 +88,7 @@ indexing_in c f =
     let x : CachedFile = file_in c.files f in
     indexing_of x.extents (order_in c.orders x.pool) c.marks
 
--- n extents more may come in, and their entries
+-- there is room for n more extents and their entries
 pub record HasPlaces (n : ℕ) (old : Indexing) : Type 0 where
   pub extents : n ≤ old.extents.room
   pub entries : n ≤ old.order.room
@@ -106,7 +106,8 @@ pub record Forgets (f at : ℕ) (es : List Extent) (r t : Ranking) (marks new : 
   pub order : t ≡ forgotten_at r f (begins_at es at)
   pub room : r.room ≤ t.room
 
--- Extents of file f may go: they are indexed, each page has a mark, and their slices are held and can be read.
+-- Extents of file f may be removed: they are indexed, each page has a mark, and their slices are held and can be
+-- read.
 pub record MayGo (f : ℕ) (s : Stored) (old : Indexing) : Type 0 where
   pub indexed : IsIndexed f old.extents.extents old.order old.marks
   pub pages : length old.marks ≡ page_count s.arena
@@ -157,14 +158,14 @@ pub record ComesIn (e : Extent) (old new : ExtentMap) : Type 0 where
   pub ends : 0 < byte_len e.parts → last_end new.extents ≡ max (end_of e) (last_end old.extents)
   pub room : old.room ≤ new.room + 1
 
--- The order and the marks of file f follow an extent that comes in, if it has a byte. There is room for one entry less
--- at most.
+-- The order and the marks of file f follow an extent that is put in, if it has a byte. There is room for at most one
+-- entry less.
 pub record Remembers (f : ℕ) (e : Extent) (old new : Indexing) : Type 0 where
   pub follows : Reindexes f old.extents.extents new.extents.extents old.order new.order old.marks new.marks
   pub order : new.order ≡ remembered old.order f e
   pub room : old.order.room ≤ new.order.room + 1
 
--- an extent came into file f, if it has a byte, and the order and the marks follow
+-- an extent was put into file f, if it has a byte, and the order and the marks follow
 pub record PutsIn (f : ℕ) (e : Extent) (es fs : ExtentMap) (r q : Ranking) (marks new : List ℕ) : Type 0 where
   pub comes : ComesIn e es fs
   pub remembers : Remembers f e (indexing_of es r marks) (indexing_of fs q new)

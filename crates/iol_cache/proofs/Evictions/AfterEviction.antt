@@ -69,7 +69,7 @@ clean_less h a fs f at e numbered begins clean =
     (λ (b : Bool). h (bufs_of (cond b [] e.parts)) + h (flat_map (held_by clean_parts) (without_extent fs f at)))
     clean
 
--- A file without a clean extent, and the others.
+-- A file from which a clean extent was removed, and the other files.
 
 filed_lacking : {s t : Stored} (x : CachedFile) (at : ℕ) → IsFiled s x → Stays s t
     → Covers t (bufs_of (all_parts (without_at x.extents.extents at))) → (e : Extent)

@@ -62,7 +62,7 @@ at_most s clean (q ∷ qs) =
 abbrev pub IsBeside : Stored → (clean : List BufId) → (q : ℕ) → Type 0
 IsBeside s clean q = (b : BufId) → IsLive s.arena b → LiesOn s.arena b q → tally b clean ≡ 0
 
--- then a live buffer there is held by others
+-- a live buffer that clean extents do not hold is held by others
 held_live : (s : Stored) (clean : List BufId) (b : BufId) → IsTidy s → IsLive s.arena b → tally b clean ≡ 0
     → nat_lt (tally b clean) (count_of s b) ≡ true
 held_live s clean b tidy live none = let h = tidy.held b live in grind (arith, nat_tests, none, h)

@@ -52,7 +52,7 @@ unfolding tally
 row_some b x at zero some = absurd (omega (arith, some))
 row_some b x at (suc n) some = omega arith
 
--- if the slices hold a buffer, one of their places is in it
+-- slices hold a buffer exactly if one of their places is in it
 held_there : (b : BufId) (xs : List Slice) → 0 < tally b (bufs_of xs) → 0 < tally b (bufs_at (places xs))
 unfolding tally
 held_there b [] h = h

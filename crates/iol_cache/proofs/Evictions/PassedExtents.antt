@@ -71,7 +71,7 @@ in_use_left {s = s} {t = t} fs gs g b counts same =
     ∙ (λ i. list_any (λ (x : Slice). beside_same {s = s} {t = t} {clean = clean_held fs} {left = clean_held gs}
     x.hold.buf counts i) (parts_at fs g b))
 
--- so those below a rank stay in use, where the order keeps them there
+-- so the extents below a rank stay in use, if the order keeps them below it
 pub passed_evicted : (old new : Holding) (f at : ℕ) (was now : Rank) (r s : Ranking) → IsSound old.store old.cache
     → IsSound new.store new.cache → Evicts f at old new → r ≡ order_in old.cache.orders (file_in old.cache.files f).pool
     → s ≡ evicted_at r f at → ((u : ℕ → ℕ → Bool) → AreUsedBelow u was r.entries → AreUsedBelow u now s.entries)

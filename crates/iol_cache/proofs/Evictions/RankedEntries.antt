@@ -170,7 +170,7 @@ of_same fs f x q b numbered =
     ap (λ (y : CachedFile). cond {A = ℕ} (eqb y.pool q) (clean_at b y.extents.extents) 0)
     (file_same fs f x numbered.0 numbered.1)
 
--- the clean extent and its entry go
+-- the clean extent and its entry are removed
 pub ranked_evicted : {s : Stored} (fs : List CachedFile) (os : List Ranking) (f at : ℕ) → (0 < f) × (f ≤ length fs)
     → (0 < (file_in fs f).pool) × ((file_in fs f).pool ≤ length os) → AreRanked fs os → IsFiled s (file_in fs f)
     → IsCleanAt fs f at → AreRanked (without_extent fs f at) (with_evicted os (file_in fs f).pool f at)

@@ -71,7 +71,7 @@ one_more p wanted place a b c m sound wants first gone = record {
   );
 }
 
--- An eviction leaves the orders of other pools.
+-- An eviction leaves the orders of other pools unchanged.
 pub evicts_others : (old new : Holding) (f at p : ℕ) → Evicts f at old new → (file_in old.cache.files f).pool ≡ p
     → (q : ℕ) → q ≢ p → order_in new.cache.orders q ≡ order_in old.cache.orders q
 evicts_others old new f at p gone pool q ne =
@@ -111,7 +111,7 @@ dirty_all (x ∷ xs) none =
           ap (λ d. cond {A = ℕ} (not d) 1 0) is,
         ))
 
--- where all orders are empty, no extent is clean
+-- if all orders are empty, no extent is clean
 pub all_dirty : (s : Stored) (c : Cached) → IsSound s c → ((p : ℕ) → (order_in c.orders p).entries ≡ []) → (f : ℕ)
     → AllDirty (extents_in c.files f)
 all_dirty s c sound none f =

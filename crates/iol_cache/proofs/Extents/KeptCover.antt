@@ -318,7 +318,7 @@ module _ (f at : ℕ) (source : List Slice) (old new : Holding) (there : is_numb
         | inr clean ↦ inr clean
       ]
 
-  -- where the pages of its copies are free
+  -- if the pages of its copies are free
   pub write_keeps_all : (let p = (file_in old.cache.files f).pool in
       copied_pages p source ≤ length (free_of old.store p)) → (g i : ℕ) (c : Cell) → IsBeside g i
       → cover (extents_in old.cache.files g) i ≡ Some c → cover (extents_in new.cache.files g) i ≡ Some c

@@ -31,7 +31,7 @@ pub record AreOpen (ps : List Pool) (fs : List CachedFile) : Type 0 where
 pub open_all : {s : Stored} {c : Cached} → IsSound s c → AreOpen s.pools c.files
 open_all sound = record { each = λ f is. (sound.opened f is).is_open }
 
--- where each pool that was open is open
+-- if each pool that was open is open
 pub open_kept : (ps qs : List Pool) (fs : List CachedFile)
     → ((p : ℕ) → (pool_in ps p).closed ≡ false → (pool_in qs p).closed ≡ false) → AreOpen ps fs → AreOpen qs fs
 open_kept ps qs fs keeps all = record { each = λ f is. keeps (file_in fs f).pool (all.each f is) }
@@ -77,14 +77,14 @@ open_more ps x p is = elim (cases_eq p 0) [
   ]
 ]
 
--- with one pool more
+-- with one more pool
 pub open_added : (s t : Stored) (fs : List CachedFile) (x : machine.Pool)
     → map pool_meant t.pools ≡ map pool_meant s.pools ++ x ∷ [] → AreOpen s.pools fs → AreOpen t.pools fs
 open_added s t fs x added = open_kept s.pools t.pools fs (λ p is.
     sym (closed-meant t.pools p) ∙ ap (λ ps. closed_in ps p) added
     ∙ open_more (map pool_meant s.pools) x p (closed-meant s.pools p ∙ is))
 
--- where a pool closed that no file is of
+-- if a pool closed that no file is of
 pub open_closed : (s t : Stored) (fs : List CachedFile) (p : ℕ)
     → ((f : ℕ) → is_numbered fs f ≡ true → (file_in fs f).pool ≢ p)
     → map pool_meant t.pools ≡ map pool_meant (with_closed s.pools p) → AreOpen s.pools fs → AreOpen t.pools fs

@@ -143,7 +143,7 @@ covers_left s xs ys covers = record { each = λ x. omega (arith, covers.each x, 
 pub covers_right : (s : Stored) (xs ys : List BufId) → Covers s (xs ++ ys) → Covers s ys
 covers_right s xs ys covers = record { each = λ x. omega (arith, covers.each x, tally-append x xs ys) }
 
--- Hits leave room.
+-- Hits do not use reserved room.
 
 pub hits_entries_left : (s : Stored) (r e : Cached) (f n : ℕ) (hits : List Span) → IsSound s r
     → is_numbered r.files f ≡ true → CountsHits f hits r e → n ≤ (order_in r.orders (file_in r.files f).pool).room

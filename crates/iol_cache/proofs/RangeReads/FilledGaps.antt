@@ -154,7 +154,7 @@ order_wide low high a b (g ∷ gs) lo hi o =
 pub span_next : (gs : List Span) (i : ℕ) (d : Span) → i < length gs → drop i gs ≡ get_or gs i d ∷ drop (i + 1) gs
 span_next gs i d h = drop-cons gs i d h ∙ ap (λ k. get_or gs i d ∷ drop k gs) (sym (add-one i))
 
--- The gaps that are left.
+-- The remaining gaps.
 
 pub gaps_left : (es es' : List Extent) (e : Extent) (high : ℕ) (rest : List Span) → AreInOrder (end_of e) high rest
     → All (IsGapSpan es) rest → Adds es e es' → All (IsGapSpan es') rest
@@ -171,7 +171,7 @@ gap_pages-take gs zero = omega arith
 gap_pages-take [] (suc i) = omega arith
 gap_pages-take (g ∷ gs) (suc i) = omega (arith, gap_pages-take gs i)
 
--- One gap more.
+-- One more gap.
 
 zip_push : {A B : Type 0} (R : A → B → Type 0) (xs : List A) (ys : List B) (x : A) (y : B) → AllZip R xs ys → R x y
     → AllZip R (xs ++ x ∷ []) (ys ++ y ∷ [])

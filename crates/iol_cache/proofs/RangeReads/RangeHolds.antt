@@ -188,7 +188,7 @@ same_none c = record {
 pub places_none : (s : Stored) (p n : ℕ) → PlacesSome s s p n
 places_none s p n = record { count = 0; few = omega arith; pages = keeps_pages_same s s refl refl }
 
--- evictions leave gaps
+-- gaps are still gaps after evictions
 pub gaps_kept : (a b : Holding) (f : ℕ) (gs : List Span) → KeepsPlaces a.cache b.cache
     → All (IsGapSpan (extents_in a.cache.files f)) gs → All (IsGapSpan (extents_in b.cache.files f)) gs
 gaps_kept a b f gs keeps all =
@@ -246,7 +246,7 @@ extents_filled f from to b c beside gs d xs there filled =
     ap (λ (l : List CachedFile). extents_in l f) filled.files
     ∙ ap (λ (y : CachedFile). y.extents.extents) (file_same b.cache.files f x n.0 n.1)
 
--- Some holds are released, and others stay.
+-- Some references are released, and others remain.
 pub goes_released : (d : Disk) (own gone more : List BufId) (s t : Stored) (c : Cached)
     → ((x : BufId) → tally x own ≡ tally x gone + tally x more) → IsSound s c → Covers s (held c.files ++ own)
     → Moves s t gone [] → SameLists s t → (AllReclaimed s → AllReclaimed t) → page_count t.arena ≡ page_count s.arena
@@ -448,7 +448,7 @@ module _ (d : Disk) {f from to : ℕ} {a c : Holding} {pins : List Slice} {gs : 
 err_is : {A : Type 0} (x y : Refusal) → (let r : Result A Refusal = Err x in r) ≡ Err y → x ≡ y
 err_is x y e = cc
 
--- The whole, where there was room.
+-- The whole read, if there was room.
 pub pinned_filled : {d e : Disk} {f from to : ℕ} {a b c : Holding} {t : Stored} {pins : List Slice} {gs : List Span}
     {ok : Bool} (r : Result (List Slice) Refusal) → MayFill f from to gs pins a
     → MakesFree (file_in a.cache.files f).pool (gap_pages gs) a b ok → IsTrue ok → IsSound b.store b.cache

@@ -107,7 +107,7 @@ slices_over_none (x ∷ xs) at = ap (λ l. l ++ slices_over xs at at) (meeting-e
 
 -- Lists of slices that grow.
 
--- slices were added, the first of those that were left
+-- the first of the remaining slices were added
 pub parts_more : (old new part left rest : List Slice) (all : List BufId) → bufs_of new ≡ bufs_of old ++ bufs_of part
     → left ≡ part ++ rest → bufs_of old ++ bufs_of left ≡ all → bufs_of new ++ bufs_of rest ≡ all
 parts_more old new part left rest all more is before =

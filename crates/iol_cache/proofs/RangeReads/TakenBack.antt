@@ -1,4 +1,4 @@
--- Extents put in and taken away again.
+-- Extents that are put in and removed again.
 use Rattle.std.proofs.Common.{◌≡◌, ℕ, zero, suc, ◌+◌, ◌-◌, ◌<◌, ◌≤◌, ◌==◌, nat_lt, Bool, true, false, cond, All, List}
 use Rattle.std.proofs.Common.{[], ◌∷◌, ◌++◌, length, take, drop, get_or, Option, Some, None, IsSome, refl, sym, ap, ◌∙◌}
 use Rattle.std.proofs.Common.{arith, subst}
@@ -133,7 +133,7 @@ none_gaps es low high (g ∷ gs) apart order gaps = (
 abbrev pub Begin : Span → Extent → Type 0
 Begin g e = e.at ≡ g.from
 
--- the extents that were put in, taken away again
+-- the extents that were put in, removed again
 pub without_put : (es : List Extent) (low : ℕ) (gs : List Span) (made : List Extent) → NoneBegins es low gs
     → AllZip Begin gs made → without_spans (all_put es made) gs ≡ es
 unfolding all_put
@@ -209,7 +209,7 @@ back_readable s es low (g ∷ gs) (e ∷ made) none zip all =
     (back_readable s (put_in es e) (g.from + 1) gs made beside zip.1 (λ k d h. all (suc k) d (omega arith)))
     (subst (λ (o : Option Extent). AllReadable s (parts_in o)) (sym is) (all 0 e (omega arith)))
 
--- Taken away one after another, from the last.
+-- Extents are removed one after another, from the last.
 
 pub begin_drop : (es : List Extent) (gs : List Span) (k : ℕ) → AllBegin es gs → AllBegin es (drop k gs)
 begin_drop es gs zero h = h
@@ -249,7 +249,7 @@ pub readable_here : {s : Stored} (es : List Extent) (g : Span) (gs : List Span) 
     → AllReadable s (parts_in (begins_at (without_spans es gs) g.from))
 readable_here es g gs h = (readable_parts (parts_back es gs) (parts_in (begins_at (without_spans es gs) g.from)) h).1
 
--- the extent that is taken away next
+-- the extent that is removed next
 pub record IsNext (es xs : List Extent) (gs : List Span) (left : ℕ) (g : Span) : Type 0 where
   pub extent : Extent
   pub begins : begins_at xs g.from ≡ Some extent

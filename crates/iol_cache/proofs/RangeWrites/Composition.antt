@@ -446,7 +446,7 @@ run_all {s} {t} {p} {xs} {out} left none m =
     let n : m.count ≡ copied_pages p xs = omega (arith, m.pages, ap (copied_pages p) none, pages_for-zero) in
     subst (λ k. Composes s t p k xs out) n (subst (λ (l : List Slice). Composes s t p m.count l out) is m.composes)
 
--- as many bytes
+-- the composed bytes have the length of the source
 pub composed_long : {s t : Stored} {p k : ℕ} {xs out : List Slice} → Composes s t p k xs out
     → byte_len out ≡ byte_len xs
 composed_long m = m.own.long
