@@ -78,7 +78,7 @@ slots_beside : (k l : KernelState) → machine_of [] l ≡ machine_of [] k → (
 unfolding with_slots
 slots_beside k l same slots = ap (λ (s : State). record s { slots = slots }) same
 
--- The reading itself, from where room was made.
+-- The read itself, after room was made.
 
 module _ (c max pool : ℕ) (h k : KernelState) (room : MakesRoom pool (pages_for 1) h k)
     (in_pool : (conn_at (machine_of [] h) c).pool ≡ pool) where

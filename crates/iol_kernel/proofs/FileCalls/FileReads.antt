@@ -200,7 +200,7 @@ refused_late : {A : Type 0} (m : Meaning A) (y : Refusal) → first m.refusals �
     → MatchOption (first m.refusals) (m.Late y) (λ z. y ≡ z)
 refused_late m y passed late = subst (λ (o : Option Refusal). MatchOption o (m.Late y) (λ z. y ≡ z)) (sym passed) late
 
--- A domain's row, where its descriptor is open on a file.
+-- A domain's row, if its descriptor is open on a file.
 
 pub open_at : (h : KernelState) (d fd : ℕ) (found : OpenFile) (n : ℕ) → IsSound h
     → ((f : Reading) → machine.is_live (read_of f h) d ≡ true)

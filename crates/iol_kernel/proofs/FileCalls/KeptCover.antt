@@ -33,7 +33,7 @@ use Rattle.iol_kernel.specs.KeptCover.{GaveWay, KeepsBeside, KeepsUnless, LacksP
 use Rattle.iol_kernel.specs.KernelState.{KernelState}
 use Rattle.iol_kernel.specs.Room.{MakesRoom}
 
--- Evictions leave the files of other pools.
+-- Evictions leave the files of other pools unchanged.
 
 one_other : (f at : ℕ) (old new : Holding) → Evicts f at old new → (g : ℕ) → (g ≡ f → ⊥)
     → file_in new.cache.files g ≡ file_in old.cache.files g
@@ -55,7 +55,7 @@ evicted_other : (p : ℕ) (w : Option ℕ) (old new : Holding) → EvictsAll p w
 evicted_other p w old new x g ne =
     ap (λ (y : CachedFile). y.extents.extents) (some_other p w x.places old new x.each g ne)
 
--- and extents one after another
+-- and after evictions the extents of a file are still apart
 
 one_apart : (f at : ℕ) (old new : Holding) → Evicts f at old new → AreApart old.cache → AreApart new.cache
 one_apart f at old new gone apart = record {
@@ -131,7 +131,7 @@ pub beside_same : (f at n p : ℕ) (Lacks : Type 0) (old new : Cached) → new �
 beside_same f at n p Lacks old new same =
     record { each = λ g i c out is. inl (ap (λ (x : Cached). cover (extents_in x.files g) i) same ∙ is) }
 
--- Room that is made.
+-- Room was made.
 pub room_keeps : (p wanted : ℕ) (h k : KernelState) → MakesRoom p wanted h k
     → KeepsUnless p (LacksPages h p wanted) h.cache k.cache
 room_keeps p wanted h k room =

@@ -53,7 +53,7 @@ Domains = List (Domain (List Slice))
 abbrev pub over : Stored → Cached → Holding
 over s c = record { store = s; cache = c }
 
--- A change of domains, whatever bytes files have.
+-- A change of domains, for any bytes of files.
 
 pub agg-with_slots : (slots : List (List ℕ)) (h : KernelState) (d : ℕ) (xs : List Slice)
     → with_slots slots (record h { domains = with_agg_in h.domains d xs }) ≡ aggs.with_agg (with_slots slots h) d

@@ -53,7 +53,7 @@ pub ruleset same_rules = (moves_same, frees_same)
 
 -- a pipe is removed, in two steps
 
--- a place that is read where there is one
+-- an element that was read by its index is found there, if the index is within the list
 pub found_there : (old : Pipes) (n : ℕ) (z : Option (Pipe (List Slice))) (x : Pipe (List Slice)) → n < length old
     → z ≡ Some x → z ≡ get_or old n z → Some x ≡ in_place old n
 found_there old n z x there is read = sym is ∙ read ∙ get_or_default old n z None there

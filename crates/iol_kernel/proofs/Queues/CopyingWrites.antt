@@ -16,7 +16,7 @@ use Rattle.iol_kernel.specs.Room.{MayHaveEvicted, Places}
 use Rattle.iol_kernel.specs.WritesByCopy.{FailsTests}
 use Rattle.iol_kernel.proofs.State.AfterRoom.{memory_wanted, places_refused}
 
--- of a call that is never refused late the refusal is the first that holds
+-- the refusal of a call without late refusals is the first one that applies
 first_holds : (o : Option Refusal) (x : Refusal) → MatchOption o (Never x) (λ y. x ≡ y) → o ≡ Some x
 first_holds None x none = absurd none
 first_holds (Some y) x is = ap (λ (z : Refusal). Some z) (sym is)

@@ -236,7 +236,7 @@ pub freed-read_of : (f : Reading) (h : KernelState) (d fd : ℕ)
     → fds.freed (read_of f h) d fd ≡ slice_set (domain_in h.domains d).fds fd None
 freed-read_of f h d fd = ap (λ (xs : List (Option Descriptor)). slice_set xs fd None) (fds-read_of f h d)
 
--- the state after it, where x was given
+-- the machine's state after the gift of x
 gift : (f : Reading) (h : KernelState) (d fd to : ℕ) (x : Descriptor) → in_place (domain_in h.domains d).fds fd ≡ Some x
     → (fds.give_fd (read_of f h) d fd to).after ≡ fds.given_to (read_of f h) d fd to x
 gift f h d fd to x there =

@@ -246,7 +246,7 @@ same_lists : (h k : KernelState) → (machine_of [] k).pools ≡ (machine_of [] 
 unfolding read_of state_view
 same_lists h k same = same
 
--- one change after another: the first leaves the pools as the machine sees them
+-- one change after another: the first leaves the machine's pools unchanged
 pub leaves_then : (m n : State → State) (h k l : KernelState) → ((s : State) → (m s).pools ≡ s.pools) → Leaves m h k
     → Leaves n k l → Leaves (λ s. n (m s)) h l
 leaves_then m n h k l pools one two = record {

@@ -138,7 +138,7 @@ taken_pipes-read_of f h = taken-view f h.domains h.store.pools (objects_of h)
 
 pub ruleset pipe_rules = (length_queue-read_of, reading-read_of, writing-read_of)
 
--- A domain's row, where its descriptor is open on something.
+-- A domain's row, if its descriptor is open.
 
 pub open_row : {h : KernelState} {d fd : ℕ} {end : Descriptor} → IsOpenOn h d fd end
     → (domain_in h.domains d).live ≡ true

@@ -339,7 +339,7 @@ pub sound_fds : (h : KernelState) (d : ℕ) (xs : List (Option Descriptor)) → 
 sound_fds h d xs sound live fds once =
     sound_with h d (record (domain_in h.domains d) { fds = xs }) sound live refl fds once
 
--- limits, when a domain gets an aggregate, or gives one up
+-- limits, when a domain gets an aggregate, or releases one
 
 pub limits_agg : (ds : List (Domain (List Slice))) (qs : Objects (List Slice)) (d : ℕ) (xs : List Slice)
     → IsLimited ds qs → (domain_in ds d).live ≡ true → byte_len xs ≤ MAX_AGGREGATE_BYTES
