@@ -1,4 +1,4 @@
-//! A system, behind a value that says nothing of it.
+//! A system, in a value whose model is the unit: contracts say nothing about it.
 use crate::counting::Counting;
 use iol_agg::Parts;
 use iol_core::configuration::Config;

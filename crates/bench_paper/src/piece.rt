@@ -40,7 +40,7 @@ pub enum Piece {
     Own(Bytes),
 }
 
-/// What a program does with the bytes that it reads.
+/// The work of a program on the bytes that it reads.
 pub trait Scan {
     fn add(&mut self, part: &[u8]);
 }

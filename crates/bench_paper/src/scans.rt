@@ -1,4 +1,4 @@
-//! What the programs do with the bytes that they read.
+//! The work of the programs on the bytes that they read.
 use crate::piece::Scan;
 
 /// The word that lines are searched for.
@@ -62,7 +62,7 @@ impl Search {
 }
 
 impl Scan for Search {
-    // No byte of the word but its first begins it, so a mismatch goes back to the first. After a match
+    // No byte of the word except its first begins it, so a mismatch goes back to the first. After a match
     // the rest of the line is passed over.
     fn add(&mut self, part: &[u8]) {
         let mut matched = self.matched;

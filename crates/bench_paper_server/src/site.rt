@@ -24,7 +24,7 @@ pub const NET_POOL: u32 = 2;
 /// The chunks of the second.
 const NET_CHUNKS: u32 = 8;
 
-/// What is served, and how.
+/// The files that are served, and how.
 #[derive(Drop)]
 pub struct Site {
     pub passing: Passing,

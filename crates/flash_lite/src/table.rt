@@ -101,8 +101,8 @@ impl Table {
         Ok(turn)
     }
 
-    // After the reply to `accept`: accepts the next connection, or ends the round if none is
-    // waiting.
+    // After the reply to `accept`: accepts the next connection, or ends the round if no
+    // connection is waiting.
     #[tactic(auto, using(crate::proofs::Turns::TurnParts::accepted_turns, crate::proofs::Turns::TurnParts::over_turns))]
     fn advance_accepting(&mut self, last: &Reply) -> Result<Turn, AllocError>
         requires accepts { self.old.pending_call ≡ Accepting }

@@ -59,7 +59,7 @@ unfolding sum_to
 no_more zero f g each = omega arith
 no_more (suc k) f g each = let here = each k in let rest = no_more k f g each in omega (arith, here, rest)
 
--- if one term is less by this number, and none is more, the sum is less by it
+-- if one term is less by this number, and no term is greater, the sum is less by it
 pub less_at : (most j by : ℕ) (f g : ℕ → ℕ) → j < most → g j + by ≤ f j → ((i : ℕ) → g i ≤ f i)
     → sum_to most g + by ≤ sum_to most f
 unfolding sum_to
@@ -128,7 +128,7 @@ pub record AreShort (site_contents : SiteContents) (longest : ℕ) : Type 0 wher
   pub errors : IsShort longest
   pub heads : (q : Answer) → IsProper q → length (text_of q Script) ≤ longest
 
--- The server has an open pool for heads, and none is longer than an aggregate.
+-- The server has an open pool for heads, and no head is longer than an aggregate.
 abbrev pub HasRoom : State → Type 0
 HasRoom m = (q : Answer) (k : Payload) → IsProper q → ContentIsShort k → HasPlaceFor m (text_of q k)
 

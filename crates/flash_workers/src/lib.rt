@@ -12,8 +12,8 @@ use iol_laws::laws;
 /// The step stays only if its call was refused, and then nothing changes. So a script ends after
 /// finitely many of its worker's calls that are not retried. The rank is a pair of numbers: the
 /// lines that are not begun with the stages of the one that is, and the calls of a stage. Events
-/// of others leave it. The law is about single steps of a worker, whether or not the pipe of its
-/// output has a reader.
+/// of others do not change it. The law is about single steps of a worker, whether or not the pipe
+/// of its output has a reader.
 pub fn workers_advance()
     ensures { WorkersAdvance }
 {

@@ -1,4 +1,4 @@
--- The fields of a cache, as what contracts see of it.
+-- The fields of a cache, as contracts see them.
 use Rattle.std.specs.Prelude.{ℕ}
 use Rattle.iol_evict.specs.declared.entry.Rank.{Rank}
 use Rattle.iol_hold.specs.StoreState.{Stored}

@@ -1,4 +1,4 @@
--- What a cache of files holds.
+-- The state of a cache of files.
 use Rattle.std.specs.Prelude.{◌≡◌, ℕ, ◌+◌, ◌≤◌, ◌&&◌, not, if◌then◌else◌, List, [], flat_map, length, max}
 use Rattle.std.specs.Prelude.{sum_by, Option, Some, None, Result, OnErr, OnOk, ◌==◌}
 use Rattle.iol_core.specs.NumberedLists.{numbered_or}

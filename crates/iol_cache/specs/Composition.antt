@@ -18,7 +18,7 @@ use Rattle.iol_pool.specs.Pools.{pool_in}
 use Rattle.iol_cache.specs.Loads.{PlacesOrReleases, PlacesPages}
 use Rattle.iol_cache.specs.SharedBytes.{CountsBelow}
 
--- The pages that new bytes need in a pool, after so many bytes of other pools: each maximal run of bytes of other pools
+-- The pages that new bytes need in a pool, after `run` bytes of other pools: each maximal run of bytes of other pools
 -- is copied apart.
 abbrev pub pages_after : (run pool : ℕ) → List Slice → ℕ
 pages_after run p [] = pages_for run
@@ -44,7 +44,8 @@ pub record Composes (s t : Stored) (pool k : ℕ) (source out : List Slice) : Ty
   pub pages : PlacesPages s t pool k
   pub reclaims : AllReclaimed s → AllReclaimed t
 
--- the first slices of a source were composed in the pool, on as many pages as it needs beside those that are left
+-- the first slices of a source were composed in the pool, on as many pages as the source needs in addition to those
+-- of the remaining slices
 pub record ComposesRun (s t : Stored) (pool : ℕ) (source left out : List Slice) : Type 0 where
   pub run : List Slice
   pub splits : source ≡ run ++ left

@@ -1,4 +1,4 @@
--- What a write cuts: the parts of extents on both sides of its range.
+-- The parts that a write cuts off: those of extents on both sides of its range.
 use Rattle.std.specs.Prelude.{◌≡◌, ℕ, ◌-◌, ◌<◌, ◌^◌, List, [], take, drop, MatchOption, Result, IfOk, OnErr}
 use Rattle.iol_extent.specs.Extents.{Extent, end_of, extent_over}
 use Rattle.iol_hold.specs.Moves.{Covers, Shares}

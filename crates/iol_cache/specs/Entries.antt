@@ -1,4 +1,4 @@
--- Extents that come into the order of their pool, and are marked.
+-- Extents that enter the order of their pool, and are marked.
 use Rattle.std.specs.Prelude.{◌≡◌, ℕ, ◌-◌, ◌<◌, ◌≤◌, ◌^◌, List, length, IsSome}
 use Rattle.iol_extent.specs.Extents.{Extent, IsApart, begins_at}
 use Rattle.iol_extent.specs.Spans.{AreInOrder}
@@ -24,8 +24,8 @@ pub record Enters (f at : ℕ) (es : List Extent) (r t : Ranking) (old new : Lis
   pub order : t ≡ entered r f at (byte_len (parts_in (begins_at es at))) 1
   pub marks : Marks old new (parts_in (begins_at es at))
 
--- Extents of file f begin where these spans do, one after another, and may come in: the order has none of them, and
--- room, and their pages can be marked.
+-- Extents of file f begin where these spans do, one after another, and may enter the order: the order has no entry of
+-- them, and room for them, and their pages can be marked.
 pub record MayEnterAll (f : ℕ) (es : List Extent) (ss : List Span) (r : Ranking) (marks : List ℕ) : Type 0 where
   pub apart : IsApart 0 es
   pub begin : AllBeginAt es ss

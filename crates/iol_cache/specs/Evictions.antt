@@ -1,4 +1,4 @@
--- Clean extents that go, one after another.
+-- Clean extents that are evicted, one after another.
 use Rattle.std.specs.Prelude.{◌≡◌, ◌≢◌, ◌↔◌, ℕ, zero, suc, ◌+◌, ◌<◌, ◌≤◌, Bool, List, [], ◌∷◌, length}
 use Rattle.std.specs.Prelude.{Option, Some, None, MatchOption, IsTrue, IsFalse, ⊤}
 use Rattle.std.specs.List.{list_any, AllByRecursion}

@@ -65,7 +65,7 @@ pub record ServesRead (f at n : ℕ) (disk : Disk) (s : Stored) (c : Cache) (r :
   pub pool : IfOk r (AreOf (file_in (cached_of c).files f).pool)
   pub short : IfOk r (λ a. byte_len a ≤ n)
   pub reads : IfOk r (ReadsFile f at n disk (holding s c) (holding t d))
-  -- what does not change
+  -- the cache and the store after the read
   pub backed : IsBacked disk (holding s c) → IsBacked after (holding t d)
   pub goes : IfOk r (λ a. Goes disk [] (bufs_of a) (holding s c) (holding t d))
   pub gone : OnErr r (Goes disk [] [] (holding s c) (holding t d))

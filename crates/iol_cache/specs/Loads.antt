@@ -48,7 +48,7 @@ pub record WritesFilling (f g : Fill) : Type 0 where
   pub fills : Fills (filling_store f) (filling_store g) (filling_parts f)
   pub entries : (filling_store g).arena.entries ≡ (filling_store f).arena.entries
 
--- At most `left` bytes of a file were read into part i of a filling. Where an honest store did not fail, they are those
+-- At most `left` bytes of a file were read into part i of a filling. If an honest store did not fail, they are those
 -- of the file from `at` on.
 pub record ReadsPart {E : Type 0} (f g : Fill) (i left : ℕ) (disk : Disk) (file at : ℕ) (r : Result ℕ E) : Type 0 where
   pub writes : WritesFilling f g
@@ -120,9 +120,10 @@ pub record LoadsHolds (old new : Stored) (pool n : ℕ) (disk : Disk) (file at :
   pub value : IfHonest disk (bytes_in new.arena (held_bufs holds) ≡ take n (drop at (content disk.slots file)))
   pub inside : IfHonest disk (at + n ≤ length (content disk.slots file))
 
--- What does not change when n bytes of a file are read into a pool, or are not: the pools, and that no closed pool
--- keeps its chunks if all of them are empty. After an error, for lack of room or memory or by a fault at the file, the
--- references are unchanged and pages were at most freed, and NoRoom means that fewer pages are free than n bytes need.
+-- n bytes of a file were read into a pool, or were not. The pools are unchanged, and again no closed pool keeps its
+-- chunks if all of them are empty. After an error, for lack of room or memory or by a fault at the file, the
+-- references are unchanged and pages were at most freed, and NoRoom means that fewer pages are free than n bytes
+-- need.
 pub record LoadsOrKeeps {A : Type 0} (pool n file : ℕ) (old new : Stored) (r : Result A Refusal) : Type 0 where
   pub none : OnErr r (Moves old new [] [])
   pub kept : OnErr r (KeepsPages old new [])

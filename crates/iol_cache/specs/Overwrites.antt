@@ -90,7 +90,8 @@ pub record OnlyMakesRoom (pool n : ℕ) (old new : Holding) : Type 0 where
   pub cache : new.cache ≡ mid.cache
   pub met : HasPages pool n old ⊎ LeavesAll old new
 
--- The bytes of the source and the parts beside them were prepared, and came in the place of what the range met.
+-- The bytes of the source and the parts on both sides of them were prepared, and replaced the extents that the range
+-- met.
 pub record Overwrites (f at : ℕ) (source : List Slice) (old new : Holding) : Type 0 where
   pub left : Extent
   pub right : Extent
@@ -139,9 +140,9 @@ pub record MakesPlace {A : Type 0} (f : ℕ) (source : List Slice) (s : Stored) 
   pub places : OnOk r (HasPlaces 3 (indexing_in (cached_of d) f))
   pub sound : IsSound t (cached_of d)
 
--- The bytes of a source may be written over those of a file of a sound cache from a place on: they end within what a
--- file may have, can be read, and are held beside all that the cache holds. Each buffer is held fewer than 2 ^ 60
--- times.
+-- The bytes of a source may be written over those of a file of a sound cache from a place on: they end within the
+-- greatest length of a file, can be read, and are held in addition to all that the cache holds. Each buffer is held
+-- fewer than 2 ^ 60 times.
 pub record MayWrite (f at : ℕ) (source : List Slice) (h : Holding) : Type 0 where
   pub sound : IsSound h.store h.cache
   pub file : IsTrue (is_numbered h.cache.files f)

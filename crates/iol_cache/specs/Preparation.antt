@@ -14,8 +14,8 @@ use Rattle.iol_cache.specs.Loads.{PlacesOrReleases}
 use Rattle.iol_cache.specs.SharedBytes.{AreHeld}
 use Rattle.iol_cache.specs.declared.write.cut.Replacement.{Replacement}
 
--- The bytes that a source has lie in the file's pool, as a dirty extent that begins at a place; and the parts of
--- extents on both sides of them are shared.
+-- The bytes of a source are in the file's pool, as a dirty extent that begins at a place; and the parts of extents on
+-- both sides of them are shared.
 pub record Prepares (s t : Stored) (pool : ℕ) (es : List Extent) (at : ℕ) (source : List Slice)
     (left right e : Extent) : Type 0 where
   pub before : CutsLeft es at left
@@ -27,8 +27,8 @@ pub record Prepares (s t : Stored) (pool : ℕ) (es : List Extent) (at : ℕ) (s
   pub composes : Composes s mid pool (copied_pages pool source) source e.parts
   pub shares : Shares mid t [] (bufs_of left.parts ++ bufs_of right.parts)
 
--- What a source has, at least a byte, may be put in place of a file's bytes from a place on: it may be composed in the
--- file's pool, and the file's extents are held.
+-- The bytes of a source, at least one, may replace a file's bytes from a place on: they may be composed in the file's
+-- pool, and the file's extents are held.
 pub record MayPrepare (s : Stored) (pool : ℕ) (es : List Extent) (at : ℕ) (source : List Slice) : Type 0 where
   pub some : 0 < byte_len source
   pub fits : at + byte_len source < 2 ^ 32

@@ -14,7 +14,7 @@ use Rattle.iol_hold.specs.Texts.{AllReadable, bufs_of}
 use Rattle.iol_hold.specs.declared.slices.Slice.{Slice}
 use Rattle.iol_cache.specs.CacheState.{all_parts}
 
--- each byte of the range lies under an extent
+-- each byte of the range is under an extent
 pub record IsCovered (es : List Extent) (from to : ℕ) : Type 0 where
   pub each : (i : ℕ) → from ≤ i → i < to → IsSome (cover es i)
 
@@ -35,7 +35,7 @@ abbrev pub slices_over : List Extent → (from to : ℕ) → List Slice
 slices_over [] from to = []
 slices_over (e ∷ es) from to = meeting (from - e.at) (to - e.at) e.parts ++ slices_over es from to
 
--- each of these ranges lies under extents
+-- the range of the span is under extents
 abbrev pub IsCoveredSpan : List Extent → Span → Type 0
 IsCoveredSpan es s = IsCovered es s.from s.to
 
@@ -58,7 +58,7 @@ pub record SharesOrReleases {A E : Type 0} (so_far : List Slice) (given : A → 
   pub lists : SameLists old new
   pub reclaims : AllReclaimed old → AllReclaimed new
 
--- The bytes of a range lie under extents, and may be added to what was shared so far: all of it is held, and can be
+-- The bytes of a range are under extents, and may be added to those shared so far: all of them are held, and can be
 -- read.
 pub record MayShare (s : Stored) (es : List Extent) (so_far : List Slice) (from to : ℕ) : Type 0 where
   pub ordered : from ≤ to
@@ -70,8 +70,8 @@ pub record MayShare (s : Stored) (es : List Extent) (so_far : List Slice) (from 
   pub few : (b : BufId) → count_of s b < 2 ^ 62 + tally b (bufs_of so_far)
   pub small : byte_len so_far + (to - from) < 2 ^ 32
 
--- The bytes of a range were added to what was shared so far: one slice for each slice of an extent that has a byte of
--- the range, the first and the last one cut at its ends. If refused, all of it is released.
+-- The bytes of a range were added to those shared so far: one slice for each slice of an extent that has a byte of
+-- the range, the first and the last one cut at its ends. If refused, all of them are released.
 pub record SharesOver {E : Type 0} (es : List Extent) (so_far : List Slice) (from to : ℕ) (old new : Stored)
     (r : Result (List Slice) E) : Type 0 where
   pub places : IfOk r (λ a. places a ≡ places so_far ++ places_over es from to)

@@ -1,4 +1,4 @@
--- What holds between any two calls of a cache.
+-- The invariant between any two calls of a cache.
 use Rattle.std.specs.Prelude.{◌≡◌, ℕ, ◌+◌, ◌≤◌, ◌<◌, ◌^◌, List, [], ◌∷◌, ◌++◌, length, Result, IfOk, OnErr}
 use Rattle.std.specs.Prelude.{OnOk, IsTrue, IsFalse}
 use Rattle.std.specs.List.{All, AllByRecursion}

@@ -1,4 +1,4 @@
--- What is asked of the users of extents.
+-- The users of extents, as contracts see them.
 use Rattle.std.specs.Prelude.{ℕ, Bool}
 use Rattle.iol_cache.specs.declared.users.Users.{Users}
 use Rattle.iol_cache.specs.Evictions.{in_use, IsCleanAt}

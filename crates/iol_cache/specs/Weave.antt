@@ -1,4 +1,4 @@
--- A range of a file: the bytes beside its gaps, which were shared first, and those of its gaps.
+-- A range of a file: the bytes outside its gaps, which were shared first, and those of its gaps.
 use Rattle.std.specs.Prelude.{◌≡◌, ℕ, ◌+◌, ◌-◌, ◌<◌, ◌≤◌, ◌^◌, All, List, [], ◌∷◌, ◌++◌, take, drop, slice_range}
 use Rattle.iol_agg.specs.Pours.{meeting}
 use Rattle.iol_extent.specs.Extents.{Extent}
@@ -108,7 +108,7 @@ AddsPart xs ys from to zs = bufs_of zs ≡ bufs_of xs ++ bufs_of (meeting from t
 abbrev pub HasSlicesBeside : List Extent → (from to : ℕ) → (gaps : List Span) → (zs : List Slice) → Type 0
 HasSlicesBeside es from to gaps zs = bufs_of zs ≡ bufs_of (slices_beside es from to gaps)
 
--- zs has the slices of a range: those of its gaps where extents have them, and those of xs
+-- zs has the slices of a range: those of extents for its gaps, and those of xs outside them
 abbrev pub HasSlicesWoven : (xs : List Slice) → List Extent → (from to : ℕ) → (gaps : List Span) → (zs : List Slice)
     → Type 0
 HasSlicesWoven xs es from to gaps zs = bufs_of zs ≡ bufs_of (slices_woven xs es 0 from to gaps)

@@ -72,7 +72,7 @@ first_cleaned (suc n) (e ∷ es) = if e.dirty then as_clean e ∷ first_cleaned 
 abbrev pub all_cleaned : List Extent → List Extent
 all_cleaned es = map as_clean es
 
--- What does not change when an honest store is written.
+-- Facts that a write to an honest store leaves unchanged.
 
 -- every file keeps its bytes
 pub record SameContents (s : Stored) (old new : Cached) (d e : Disk) : Type 0 where
@@ -215,7 +215,7 @@ pub record WritesAll {A : Type 0} (f : ℕ) (s : Stored) (old new : Cache) (d e 
   pub writes : WritesDirty s f (cached_of old) (cached_of new) d e r
   pub clean : OnOk r (dirty_in (extents_in (cached_of new).files f) ≡ None)
   pub syncs : Syncs s f (cached_of old) (cached_of new) d e
-  -- what does not change
+  -- the bytes of files, and the invariant
   pub files : KeepsBytes s (cached_of old) (cached_of new) d e
   pub mirrors : KeepsStored s (cached_of old) (cached_of new) d e
   pub sound : IsSound s (cached_of new)

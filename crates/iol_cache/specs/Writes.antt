@@ -25,8 +25,9 @@ use Rattle.iol_cache.specs.declared.write.cut.Replacement.{Replacement}
 abbrev pub parts_put : (left right e : Extent) → List Slice
 parts_put left right e = left.parts ++ (right.parts ++ e.parts)
 
--- In place of what a range of file f meets, the parts on both sides of it and an extent of new bytes may come: what
--- stands may go, they are held beside it, they can be marked, and there is room for three extents and their entries.
+-- The parts on both sides of a range of file f, and an extent of new bytes, may replace the extents that it meets:
+-- these may be removed, the new slices are held in addition to them and can be marked, and there is room for three
+-- extents and their entries.
 pub record MayReplace (f : ℕ) (range : Span) (put : Replacement) (s : Stored) (old : Indexing) : Type 0 where
   pub cuts : CutsAround old.extents.extents range.from range.to put.left put.right put.bytes
   pub stands : MayGo f s old
@@ -34,8 +35,8 @@ pub record MayReplace (f : ℕ) (range : Span) (put : Replacement) (s : Stored) 
   pub few : HasMarksLeft old.marks (parts_put put.left put.right put.bytes)
   pub places : HasPlaces 3 old
 
--- In place of what a range of file f met, the parts on both sides of it and an extent of new bytes came. The order and
--- the marks follow, and only what was met was released.
+-- The parts on both sides of a range of file f, and an extent of new bytes, replaced the extents that it met. The
+-- order and the marks follow, and only those extents were released.
 pub record Replaces (f : ℕ) (range : Span) (put : Replacement) (s t : Stored) (es fs : ExtentMap) (r q : Ranking)
     (marks new : List ℕ) : Type 0 where
   pub is : fs.extents ≡ put_some (put_some (put_some (unmet es.extents range.from range.to) put.left) put.right)
@@ -50,9 +51,9 @@ pub record Replaces (f : ℕ) (range : Span) (put : Replacement) (s t : Stored) 
   pub lists : SameLists s t
   pub reclaims : AllReclaimed s → AllReclaimed t
 
--- In place of what a range of a file of a sound cache meets, the parts on both sides of it and an extent of new bytes
--- may come: the range ends within what a file may have, the extent lies in the file's pool, all are held beside what
--- the cache holds, few times, and there is room for three extents and their entries.
+-- The parts on both sides of a range of a file of a sound cache, and an extent of new bytes, may replace the extents
+-- that it meets: the range ends within the greatest length of a file, the extent is in the file's pool, all are held
+-- in addition to what the cache holds, few times, and there is room for three extents and their entries.
 pub record MayPutOver (f : ℕ) (range : Span) (put : Replacement) (h : Holding) : Type 0 where
   pub sound : IsSound h.store h.cache
   pub file : IsTrue (is_numbered h.cache.files f)
@@ -63,7 +64,7 @@ pub record MayPutOver (f : ℕ) (range : Span) (put : Replacement) (h : Holding)
   pub few : CountsBelow h.store (2 ^ 61)
   pub places : HasPlaces 3 (indexing_in h.cache f)
 
--- In place of what a file's range met came the parts on both sides of it, and an extent of new bytes.
+-- The parts on both sides of a file's range, and an extent of new bytes, replaced the extents that it met.
 pub record PutsOver (f : ℕ) (range : Span) (put : Replacement) (old new : Holding) : Type 0 where
   pub extents : ExtentMap
   pub order : Ranking

@@ -1,4 +1,4 @@
--- The end of a file, over any store: what the calls that ask for a length say of it, in terms of the length that the
+-- The end of a file, over any store: the results of the calls that ask for a length, in terms of the length that the
 -- store reports.
 use Rattle.std.specs.Prelude.{◌≡◌, ℕ, ◌+◌, ◌<◌, ◌≤◌, Bool, false, [], length, nat_lt, if◌then◌else◌, Option, Some}
 use Rattle.std.specs.Prelude.{None, Result, Ok, Err, OnOk, IfOk, IfErr, OnErr, ⊤, IsTrue, IsFalse}

@@ -55,7 +55,7 @@ none-before free clients from i le lt =
     ap (λ z. goes_in free (get_or clients z None)) (sym at)
     ∙ (ap (λ (o : Option Client). goes_in free o) (sym (get_or-drop from clients (i - from) None)) ∙ off)
 
--- the place that is found: no place before it has such a client; if none is found, no place from `from` on has one
+-- the place found: no place before it has such a client; without a result, no place from `from` on has one
 pub record Found (free : Bool) (clients : List (Option Client)) (from : ℕ) (o : Option ℕ) : Type 0 where
   pub before : (fd : ℕ) → o ≡ Some fd → (i : ℕ) → from ≤ i → i < fd → goes_in free (in_place clients i) ≡ false
   pub none : o ≡ None → (i : ℕ) → from ≤ i → goes_in free (in_place clients i) ≡ false

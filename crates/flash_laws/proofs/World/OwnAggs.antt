@@ -1,5 +1,5 @@
--- The server's own call for a client: its result belongs to that client, and aggregates that the client no longer uses
--- are gone.
+-- The server's own call for a client: its result belongs to that client, and the server no longer has aggregates that
+-- the client no longer uses.
 use Rattle.std.proofs.Common.{inl, inr, ◌≡◌, ℕ, ◌⊎◌, List, ap, ◌∙◌, refl, sym, subst, Option, Some, None, true, false}
 use Rattle.std.proofs.Common.{Bool}
 use Rattle.iol_core.specs.State.{State}
@@ -134,7 +134,7 @@ owned-own site_contents worker_set laws m n p clients fd x r received process_sl
             (ap (λ (v : Client). uses_agg v a) (sym (left-over-is after.conn after.run after.script z is)) ∙ u)
         on None is = absurd (left-none after.conn after.run after.script a is u)
 
-    -- an aggregate that it used is still used, or is gone
+    -- an aggregate that it used is still used, or the server no longer has it
     keeps : uses_agg x a ≡ true → (b : Bool)
         → uses_agg (after_reply site_contents.scripts (first_free worker_set.count clients) x r received) a ≡ b
         → IsUsed

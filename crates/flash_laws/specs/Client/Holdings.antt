@@ -59,7 +59,7 @@ pub record ClientKeepsNothing (scripts : Bool) : Type 0 where
       → IsTrue (awaits x)
       → HasKnown scripts m x known → IsTrue ((from == g) || (write == g))
       → IsTrue (has_fd (after_reply scripts worker x (reply.Fds from write) received) g)
-  -- an aggregate that it no longer uses is gone
+  -- the server no longer has an aggregate that the client no longer uses
   pub left : (m n : State) (fd worker : ℕ) (x : Client) (known : Known) (r : Reply) (received : List ℕ) (a : ℕ)
       → IsOrderly m
       → HasKnown scripts m x known → StepsTo m (event.Call server (next_call scripts fd x)) r n

@@ -43,7 +43,7 @@ pub record KeepsNothing : Type 0 where
   pub opened : (m n : State) (fd f : ℕ) (x : Conn) (received : List ℕ)
       → StepsTo m (event.Call server (next_call fd x)) (reply.Fd f) n
       → IsTrue (uses_fd (after_reply x (reply.Fd f) received).phase f)
-  -- an aggregate that it no longer uses is gone
+  -- the server no longer has an aggregate that the connection no longer uses
   pub left : (m n : State) (fd : ℕ) (x : Conn) (r : Reply) (received : List ℕ) (a : ℕ) → IsOrderly m
       → StepsTo m (event.Call server (next_call fd x)) r n
       → IsTrue (uses_agg x.phase a) → IsFalse (uses_agg (after_reply x r received).phase a)

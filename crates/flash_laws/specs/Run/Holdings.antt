@@ -78,7 +78,7 @@ pub record RunKeepsNothing (job : ℕ → List ℕ) : Type 0 where
       → StepsTo m (event.Call server (next_call job fd w x)) (reply.Fds from write) n
       → IsTrue ((from == g) || (write == g))
       → IsTrue (has_end (after_reply worker w x (reply.Fds from write) received) g)
-  -- an aggregate that it no longer uses is gone
+  -- the server no longer has an aggregate that the run no longer uses
   pub left : (m n : State) (fd worker : ℕ) (w : Wanted) (x : Running) (o : Progress) (r : Reply) (received : List ℕ)
       (a : ℕ)
       → IsOrderly m → HasRun job m w o x → StepsTo m (event.Call server (next_call job fd w x)) r n

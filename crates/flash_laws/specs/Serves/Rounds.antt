@@ -2,8 +2,8 @@
 --
 -- A round goes over the clients by index, then accepts waiting connections, and ends with a yield. A client continues
 -- until its call is to be retried later, its response is taken whole and more input is buffered, it only reads more
--- input, or it has to wait for a worker. A client that waits for a worker is passed over while none is free; a worker
--- that becomes free is assigned to the next waiting client by index.
+-- input, or it has to wait for a worker. A client that waits for a worker is passed over while no worker is free; a
+-- worker that becomes free is assigned to the next waiting client by index.
 use Rattle.std.specs.Prelude.{◌≡◌, ℕ, ◌+◌, ◌||◌, Bool, true, false, if◌then◌else◌, List, drop, position, Option, Some}
 use Rattle.std.specs.Prelude.{None, option_map}
 use Rattle.iol_core.specs.NumberedLists.{in_place}

@@ -37,7 +37,7 @@ runs_at worker (Some x) = is_run_by x worker
 abbrev pub is_free : List (Option Client) → (worker : ℕ) → Bool
 is_free clients worker = not (list_any (λ o. runs_at worker o) clients)
 
--- the first of workers that is free, or their number if none is
+-- the first free worker, or the number of workers if no worker is free
 abbrev pub first_free : (workers : ℕ) → List (Option Client) → ℕ
 first_free workers clients = position_or_len (λ k. is_free clients k) (range_with_len 0 workers)
 

@@ -1,4 +1,4 @@
--- A connection that is not idle waits for nothing else, and one that waits is ready unchanged.
+-- `IsAwaiting` holds for each connection that is not idle, and a connection for which it holds is ready unchanged.
 use Rattle.std.proofs.Common.{◌≢◌, ℕ, List, refl, inl}
 use Rattle.flash_http.specs.Request.{Answer}
 use Rattle.flash_laws.specs.Conn.{IsAwaiting, Readies}
@@ -10,7 +10,7 @@ pub busy_awaits : (buffered : List ℕ) (q : Answer) (d : Phase) → d ≢ Recei
 busy_awaits buffered q Receiving busy = absurd (busy refl)
 busy_awaits buffered q d busy = tt
 
--- a connection that waits is ready unchanged
+-- a connection for which `IsAwaiting` holds is ready unchanged
 pub awaits_ready : (buffered : List ℕ) (q : Answer) (d : Phase)
     → IsAwaiting (record { buffered = buffered; request = q; phase = d })
     → Readies (record { buffered = buffered; request = q; phase = d })

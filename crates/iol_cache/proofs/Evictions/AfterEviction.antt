@@ -1,4 +1,4 @@
--- What an eviction leaves.
+-- The state after an eviction.
 use Rattle.std.proofs.Common.{inl, inr, ◌≡◌, ℕ, ◌+◌, ◌-◌, ◌<◌, ◌≤◌, Bool, false, cond, List, [], flat_map, length, set}
 use Rattle.std.proofs.Common.{Option, Some, IfSome, sym, ap, ◌∙◌, arith, subst}
 use Rattle.std.proofs.lemmas.Bool.{cases_eq}
@@ -69,7 +69,7 @@ clean_less h a fs f at e numbered begins clean =
     (λ (b : Bool). h (bufs_of (cond b [] e.parts)) + h (flat_map (held_by clean_parts) (without_extent fs f at)))
     clean
 
--- A file without a clean extent, and the others.
+-- A file from which a clean extent was removed, and the other files.
 
 filed_lacking : {s t : Stored} (x : CachedFile) (at : ℕ) → IsFiled s x → Stays s t
     → Covers t (bufs_of (all_parts (without_at x.extents.extents at))) → (e : Extent)
@@ -194,7 +194,7 @@ sound_evicted old new f at sound gone unmarks =
       still = moves.still sound.still;
     }
 
--- What the code leaves.
+-- The code's results, by the definitions.
 
 pub given_is : (es : List Extent) (at : ℕ) (e : Extent) (xs : List Slice) → begins_at es at ≡ Some e
     → IfSome (begins_at es at) (λ (x : Extent). xs ≡ x.parts) → xs ≡ e.parts

@@ -1,4 +1,4 @@
--- Extents that come into an order, and hits that count.
+-- Extents that enter an order, and hits that are counted.
 use Rattle.std.proofs.Common.{◌≡◌, ◌≢◌, ℕ, zero, suc, ◌+◌, ◌<◌, ◌≤◌, ◌==◌, Bool, true, false, cond, eqb, List, [], ◌∷◌}
 use Rattle.std.proofs.Common.{◌++◌, length, get_or, take, drop, Some, None, IsSome, refl, sym, ap, ◌∙◌, arith, subst}
 use Rattle.std.specs.Prelude.{◌&&◌}
@@ -23,7 +23,7 @@ use Rattle.iol_cache.proofs.Extents.FileEntries.{sum-put_in-entry, sum-map_entry
 use Rattle.iol_cache.proofs.Extents.FewerExtents.{begins_above}
 use Rattle.iol_cache.proofs.Evictions.RankedEntries.{clean_one, entry_there}
 
--- the extent over a byte begins where it does
+-- the extent over a byte is the one that begins at its place
 pub over_begins : (low : ℕ) (es : List Extent) (i : ℕ) (e : Extent) → IsApart low es → extent_over es i ≡ Some e
     → (begins_at es e.at ≡ Some e) × (low ≤ e.at)
 over_begins low [] i e a h = absurd cc
@@ -68,7 +68,7 @@ hit_entries r f at g b = sum-map_entry (entry_one g b) (set_at f at h) r.entries
     pick e true = refl
     pick e false = refl
 
--- Extents that come in.
+-- Extents that enter.
 
 pub begin_is : (es : List Extent) (at : ℕ) (y : Extent) → IsApart 0 es → IsSome (begins_at es at)
     → extent_over es at ≡ Some y → y.parts ≡ parts_in (begins_at es at)

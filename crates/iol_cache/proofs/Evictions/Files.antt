@@ -43,7 +43,7 @@ pub bytes_same : (g h : Place → ℕ) (stored : List ℕ) (es fs : List Extent)
 bytes_same g h stored es fs each len = (λ i. map (λ (k : ℕ). each k i) (range_with_len 0 (file_len stored es)))
     ∙ ap (λ n. map (file_byte h stored fs) (range_with_len 0 n)) len
 
--- The store goes on: what the extents have stays.
+-- A step of the store after which all held buffers have their bytes: the bytes under extents are unchanged.
 
 pub read_stays : {s t : Stored} (p : ℕ) (es : List Extent) (n i : ℕ) → Stays s t → Covers t (bufs_of (all_parts es))
     → AllByRecursion (IsLaid s p) es → read_or (byte_in t) n (cover es i) ≡ read_or (byte_in s) n (cover es i)
@@ -169,7 +169,7 @@ slot_evicted {s = s} {t = t} c f at g slots sound there stays covers all =
           (subst (λ es. Covers t (bufs_of (all_parts es))) is cov) filed.laid all))
     ]
 
--- Two steps, the second of which makes no hold.
+-- Two steps, of which the second takes no reference.
 pub frees_then : {a b c : Stored} → FreesOnly a b → FreesOnly b c → ((x : BufId) → count_of c x ≤ count_of b x)
     → FreesOnly a c
 frees_then {a = a} {b = b} {c = c} m n fewer = record {

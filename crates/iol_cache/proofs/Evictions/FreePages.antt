@@ -28,7 +28,7 @@ free_is Pending e = cc
 free_is (Head n) e = cc
 free_is (Tail p) e = cc
 
--- what may be used is not pinned
+-- a usable page is not pinned
 usable_reclaimable : (s : Stored) (clean : List BufId) (q : ℕ) → usable s.arena q ≡ true → is_pinned s clean q ≡ false
 unfolding is_pinned
 usable_reclaimable s clean q can =
@@ -62,7 +62,7 @@ at_most s clean (q ∷ qs) =
 abbrev pub IsBeside : Stored → (clean : List BufId) → (q : ℕ) → Type 0
 IsBeside s clean q = (b : BufId) → IsLive s.arena b → LiesOn s.arena b q → tally b clean ≡ 0
 
--- then a live buffer there is held by others
+-- a live buffer that clean extents do not hold is held by others
 held_live : (s : Stored) (clean : List BufId) (b : BufId) → IsTidy s → IsLive s.arena b → tally b clean ≡ 0
     → nat_lt (tally b clean) (count_of s b) ≡ true
 held_live s clean b tidy live none = let h = tidy.held b live in grind (arith, nat_tests, none, h)
@@ -70,7 +70,7 @@ held_live s clean b tidy live none = let h = tidy.held b live in grind (arith, n
 buf_is : (s : State) (b : BufId) → IsLive s b → buf_at s b.page ≡ b
 buf_is s b live = λ i. (let x : BufId = record { page = b.page; generation = live.generation i } in x)
 
--- the first page of what lies on q
+-- if q is in use, and clean extents hold no buffer on it, the buffer on q is held by others
 begun_on : (s : Stored) (clean : List BufId) (q : ℕ) → IsTidy s → IsStill s.arena → IsBeside s clean q
     → kind_free (entry_at s.arena q).kind ≡ false → is_begun s clean (first_on (entry_at s.arena q).kind q) ≡ true
 begun_on s clean q tidy still beside busy = elim (tidy.placed q) [
@@ -108,7 +108,7 @@ busy_pinned s clean q tidy still beside no_use =
     parts false true f l h = ap (λ b. not b || is_begun s clean (first_on (entry_at s.arena q).kind q)) l
         ∙ begun_on s clean q tidy still beside f
 
--- where clean extents hold no buffer there, what may not be used is pinned
+-- each page is either usable or pinned, if clean extents hold no buffer on it
 pub all_of : (s : Stored) (clean : List BufId) (qs : List ℕ) → IsTidy s → IsStill s.arena
     → ((q : ℕ) → In qs q → IsBeside s clean q)
     → length (filter (usable s.arena) qs) + length (filter (is_pinned s clean) qs) ≡ length qs
@@ -126,7 +126,7 @@ all_of s clean (q ∷ qs) tidy still beside =
     one false true h k ih = omega (arith, ih)
     one false false h k ih = absurd (let e : ◌≡◌ {A = Bool} false true = k refl in cc)
 
--- the room there is, whatever was given up
+-- if n pages are free after evictions, n pages fit next to the pinned ones
 pub room_at_most : (s t : Stored) (p n : ℕ) (clean left : List BufId) → pages_of t p ≡ pages_of s p → FreesOnly s t
     → Counts s t clean left → n ≤ length (free_pages t.arena (pool_in t.pools p).chunks)
     → pinned_beside s clean p + n ≤ length (pages_of s p)

@@ -54,7 +54,7 @@ at_page-take p xs i =
 one_self : (b : BufId) → one_at b.page b ≡ 1
 one_self b = ap (λ c. cond {A = ℕ} c 1 0) (eq-eqb b.page b.page refl)
 
--- a slice more
+-- one more slice
 mark_more : (old now new : List ℕ) (xs : List Slice) (i : ℕ) (x : Slice) → Marks old now (take i xs) → i < length xs
     → x ≡ get_or xs i x → x.hold.buf.page < length now
     → new ≡ set now x.hold.buf.page (get_or now x.hold.buf.page 0 + 1) → Marks old new (take (i + 1) xs)
@@ -120,7 +120,7 @@ unmark_more old now new xs i x so_far have h is within new_is = record {
   long = ap length new_is ∙ length-set now x.hold.buf.page (get_or now x.hold.buf.page 0 - 1) ∙ so_far.long;
 }
 
--- of live buffers, those that begin at a page are one
+-- the live buffers that begin at a page are one buffer
 pub at_page-live : (s : Stored) (b : BufId) (bs : List BufId) → IsLive s.arena b → All (IsLive s.arena) bs
     → at_page b.page bs ≡ tally b bs
 unfolding tally at_page
@@ -141,13 +141,13 @@ at_page-live s b (x ∷ xs) live all =
           omega (arith, rest, one, two))
     ]
 
--- a slice of covered ones is of a live buffer
+-- a slice of covered ones is of a held buffer
 pub held_at : (s : Stored) (xs : List Slice) (i : ℕ) (x : Slice) → Covers s (bufs_of xs) → i < length xs
     → x ≡ get_or xs i x → 0 < count_of s x.hold.buf
 held_at s xs i x covers h is =
     omega (arith, covers.each x.hold.buf, tally-at xs i x x.hold.buf h is, same_self x.hold.buf)
 
--- the same of both
+-- the same for both directions
 pub turn_more : (b : Bool) (old now new : List ℕ) (xs : List Slice) (i : ℕ) (x : Slice) → Turns b old now (take i xs)
     → CanTurn b old xs → i < length xs → x ≡ get_or xs i x → x.hold.buf.page < length now
     → new ≡ set now x.hold.buf.page (turned b (get_or now x.hold.buf.page 0)) → Turns b old new (take (i + 1) xs)
@@ -162,7 +162,7 @@ pub turn_none : (b : Bool) (old : List ℕ) → Turns b old old []
 turn_none true old = record { each = λ p. omega (arith, at_page-none p); long = refl }
 turn_none false old = record { each = λ p. omega (arith, at_page-none p); long = refl }
 
--- room for one more
+-- there is room for one more
 pub few_at : (b : Bool) → b ≡ true → (old now : List ℕ) (xs : List Slice) (i : ℕ) (x : Slice)
     → Turns b old now (take i xs) → CanTurn b old xs → i < length xs → x ≡ get_or xs i x
     → get_or now x.hold.buf.page 0 < 2 ^ 63

@@ -1,4 +1,4 @@
--- Where a pool's order is empty, no clean extent holds a buffer on a page of the pool.
+-- If a pool's order is empty, no clean extent holds a buffer on a page of the pool.
 use Rattle.std.proofs.Common.{inl, inr, ◌≡◌, ℕ, suc, ◌+◌, ◌-◌, ◌/◌, ◌<◌, Bool, true, false, cond, eqb, List, [], ◌∷◌}
 use Rattle.std.proofs.Common.{◌++◌, length, get_or, refl, sym, ap, ◌∙◌, arith, subst}
 use Rattle.std.specs.Prelude.{sum_by, ◌&&◌, not}
@@ -124,7 +124,7 @@ none_held s c p b sound none home =
           (sound.files f).laid
     ]
 
--- a buffer on a page of a pool is at home there
+-- a buffer begins in the chunk of each of its pages
 same_chunk : (s : State) (b : BufId) (q : ℕ) → HasRuns s.entries → IsLive s b → LiesOn s b q
     → b.page / CHUNK_PAGES ≡ q / CHUNK_PAGES
 same_chunk s b q runs live lies =

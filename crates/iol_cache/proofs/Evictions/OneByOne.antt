@@ -1,4 +1,4 @@
--- Clean extents of a pool's files that are evicted one by one, as a search goes on.
+-- Clean extents of a pool's files that a search evicts, one after another.
 use Rattle.std.proofs.Common.{◌≡◌, ℕ, ◌<◌, length, Option, Some}
 use Rattle.iol_evict.specs.declared.entry.Rank.{Rank}
 use Rattle.iol_evict.specs.Ranks.{least_rank}

@@ -1,4 +1,4 @@
--- How many pages a range wants does not depend on how its hits are sliced.
+-- The number of pages that a range needs does not depend on how its hits are sliced.
 use Rattle.std.proofs.Common.{inl, inr, ◌≡◌, ◌∙◌, ℕ, zero, suc, ◌+◌, ◌<◌, ◌≤◌, nat_lt, cond, List, [], ◌∷◌, ◌++◌}
 use Rattle.std.proofs.Common.{length, map, min, refl, sym, ap, arith, subst, Option, Some, None}
 use Rattle.std.specs.Prelude.{not, ◌||◌}
@@ -52,7 +52,7 @@ unfolding tally
 row_some b x at zero some = absurd (omega (arith, some))
 row_some b x at (suc n) some = omega arith
 
--- slices hold a buffer where a place of theirs lies in it
+-- slices hold a buffer exactly if one of their places is in it
 held_there : (b : BufId) (xs : List Slice) → 0 < tally b (bufs_of xs) → 0 < tally b (bufs_at (places xs))
 unfolding tally
 held_there b [] h = h
@@ -83,7 +83,7 @@ pub held_alike : (b : BufId) (xs ys : List Slice) → places xs ≡ places ys �
     → 0 < tally b (bufs_of ys)
 held_alike b xs ys same h = there_held b ys (subst (λ ls. 0 < tally b (bufs_at ls)) same (held_there b xs h))
 
--- Held once more by such slices, the same pages are pinned.
+-- Slices of the same places were shared in two copies of a store: both have the same pinned pages.
 
 module _ (s t u : Stored) (clean : List BufId) (xs ys : List Slice) (same : places xs ≡ places ys)
     (covers : Covers s clean) (m : Shares s t [] (bufs_of xs)) (n : Shares s u [] (bufs_of ys)) where

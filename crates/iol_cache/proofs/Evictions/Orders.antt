@@ -1,4 +1,4 @@
--- What becomes of an order as extents go and come.
+-- The order of eviction while extents are removed and put in.
 use Rattle.std.proofs.Common.{◌≡◌, ◌∙◌, ℕ, ◌<◌, ◌==◌, Bool, true, false, cond, List, [], ◌∷◌, Option, Some, None}
 use Rattle.std.proofs.Common.{IfSome, refl, sym, ap, arith, subst}
 use Rattle.std.specs.List.{filter}
@@ -82,7 +82,7 @@ met_none (x ∷ xs) from to h = here (meets from to x) h (met_none xs from to) w
   here true h ih = cc
   here false h ih = ih h
 
--- the first goes, and then the others
+-- the extents that a range meets leave the order: the first of them, and then the others
 pub forgot_first : (r t : Ranking) (f from to at : ℕ) (es : List Extent) → IsApart 0 es → (m : IsFirstMet es from to at)
     → t ≡ forgotten r f m.extent → all_forgotten t f (filter (meets from to) (without_at es at))
     ≡ all_forgotten r f (filter (meets from to) es)

@@ -31,7 +31,7 @@ use Rattle.iol_cache.proofs.Extents.HeldSlices.{clean_numbered}
 ne_of : (m n : ℕ) → m < n → (m == n) ≡ false
 ne_of m n h = grind (arith, nat_tests)
 
--- what begins at a place once another went began there before
+-- an extent that begins at a place after another was removed began there before
 begins_left : (low : ℕ) (es : List Extent) (at b : ℕ) (e : Extent) → IsApart low es
     → begins_at (without_at es at) b ≡ Some e → begins_at es b ≡ Some e
 begins_left low [] at b e apart h = h
@@ -62,7 +62,7 @@ begins_still fs f at g b e numbered apart h =
       | inr ne ↦ sym (ap (λ (y : CachedFile). begins_at y.extents.extents b) (file_other fs f g x ne)) ∙ h
     ]
 
--- an extent that is left is as much in use as before
+-- a remaining extent is as much in use as before
 in_use_left : {s t : Stored} (fs gs : List CachedFile) (g b : ℕ) → Counts s t (clean_held fs) (clean_held gs)
     → parts_at gs g b ≡ parts_at fs g b → in_use t gs g b ≡ in_use s fs g b
 unfolding in_use
@@ -71,7 +71,7 @@ in_use_left {s = s} {t = t} fs gs g b counts same =
     ∙ (λ i. list_any (λ (x : Slice). beside_same {s = s} {t = t} {clean = clean_held fs} {left = clean_held gs}
     x.hold.buf counts i) (parts_at fs g b))
 
--- so those below a rank stay in use, where the order keeps them there
+-- so the extents below a rank stay in use, if the order keeps them below it
 pub passed_evicted : (old new : Holding) (f at : ℕ) (was now : Rank) (r s : Ranking) → IsSound old.store old.cache
     → IsSound new.store new.cache → Evicts f at old new → r ≡ order_in old.cache.orders (file_in old.cache.files f).pool
     → s ≡ evicted_at r f at → ((u : ℕ → ℕ → Bool) → AreUsedBelow u was r.entries → AreUsedBelow u now s.entries)

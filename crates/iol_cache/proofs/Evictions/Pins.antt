@@ -15,7 +15,7 @@ use Rattle.iol_cache.specs.Marks.{is_held_beside}
 use Rattle.iol_hold.specs.Releases.{buf_at, FreesOnly}
 use Rattle.iol_cache.specs.PinnedPages.{is_begun, is_pinned}
 
--- what is held by others is as it was
+-- whether something other than clean extents holds the buffer is unchanged
 same_test : (l c n o : ℕ) → n + c ≡ o + l → nat_lt l n ≡ nat_lt c o
 same_test l c n o e = elim (cases_lt l n) [
   | inl h ↦ grind (arith, nat_tests, h, e)

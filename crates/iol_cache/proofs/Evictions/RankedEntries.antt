@@ -20,7 +20,7 @@ use Rattle.iol_cache.proofs.Extents.FileEntries.{file_same, file_other, order_sa
 use Rattle.iol_cache.proofs.Extents.FileEntries.{sum-without_at, sum-map_entry}
 use Rattle.iol_cache.proofs.Extents.FewerExtents.{eq_of, clean_begins, begins_above}
 
--- what an entry is at
+-- `is_at` compares an entry's file and its offset
 pub is_at-both : (e : Entry) (f at : ℕ) → is_at e f at ≡ true → (e.file ≡ f) × (e.at ≡ at)
 is_at-both e f at h = (grind (arith, nat_tests, h), grind (arith, nat_tests, h))
 
@@ -39,7 +39,7 @@ found_at (x ∷ xs) f at e h = here (is_at x f at) refl h (found_at xs f at e) w
       subst P same (is_at-both x f at is)
   here false is h ih = ih h
 
--- an entry is found where there is one
+-- `entry_at` finds an entry if there is one
 pub entry_found : (es : List Entry) (f at : ℕ) → 0 < entries_at f at es → (e : Entry) × (entry_at es f at ≡ Some e)
 entry_found [] f at h = absurd (omega (arith, h))
 entry_found (x ∷ xs) f at h = here (is_at x f at) refl (entry_found xs f at) where
@@ -170,7 +170,7 @@ of_same fs f x q b numbered =
     ap (λ (y : CachedFile). cond {A = ℕ} (eqb y.pool q) (clean_at b y.extents.extents) 0)
     (file_same fs f x numbered.0 numbered.1)
 
--- the clean extent and its entry go
+-- the clean extent and its entry are removed
 pub ranked_evicted : {s : Stored} (fs : List CachedFile) (os : List Ranking) (f at : ℕ) → (0 < f) × (f ≤ length fs)
     → (0 < (file_in fs f).pool) × ((file_in fs f).pool ≤ length os) → AreRanked fs os → IsFiled s (file_in fs f)
     → IsCleanAt fs f at → AreRanked (without_extent fs f at) (with_evicted os (file_in fs f).pool f at)

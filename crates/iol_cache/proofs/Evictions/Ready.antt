@@ -21,9 +21,9 @@ use Rattle.iol_cache.specs.Replacement.{Reindexes, IsReady}
 use Rattle.iol_cache.proofs.Extents.FileEntries.{order_other, order_same, sum-file_in, sum-with_file, sum-without_at}
 use Rattle.iol_cache.proofs.RangeReads.PutExtents.{sum-all_put}
 
--- What hits, entries and evictions leave kept.
+-- Parts of an order that hits, new entries and evictions leave unchanged.
 
--- what a hit does not change
+-- a function of the order that no hit changes is unchanged after several hits
 pub hits_same : {A : Type 0} (g : Ranking → A) → ((r : Ranking) (f at : ℕ) → g (hit_at r f at) ≡ g r)
     → (r : Ranking) (f : ℕ) (es : List Extent) (ss : List Span) → g (hits_counted r f es ss) ≡ g r
 hits_same g one r f es [] = refl
@@ -161,7 +161,7 @@ ready_hits fs os p r ordered kept ready = record {
   ];
 }
 
--- there is one file more, of which nothing is in memory
+-- a file without extents was added
 pub ready_pushed : (fs : List CachedFile) (os ps : List Ranking) (p : ℕ) → ((q : ℕ) → order_in ps q ≡ order_in os q)
     → AreReady fs os → AreReady (fs ++ new_file p ∷ []) ps
 ready_pushed fs os ps p orders ready = record {
@@ -175,7 +175,7 @@ ready_pushed fs os ps p orders ready = record {
   );
 }
 
--- Clean extents go, or come in.
+-- Clean extents are removed or put in.
 
 clean_one : (e : Extent) → e.dirty ≡ false → one_dirty e ≡ 0
 clean_one e clean = ap (λ b. cond {A = ℕ} b 1 0) clean
@@ -224,7 +224,7 @@ pub ready_after : {f : ℕ} {es fs : List Extent} {r t : Ranking} {marks new : L
     → IsReady r es → IsReady t fs
 ready_after m h = record { enough = omega (arith, m.kept, h.enough) }
 
--- a place is kept for a dirty extent
+-- the order keeps a place for a dirty extent
 pub some_kept : (r : Ranking) (es : List Extent) (at : ℕ) (e : Extent) → begins_at es at ≡ Some e → e.dirty ≡ true
     → IsReady r es → 0 < r.kept
 some_kept r es at e begins dirty h =

@@ -1,4 +1,4 @@
--- Room that is made, hits that are counted: what a cache stands for stays.
+-- Reserved room and counted hits do not change what a cache represents.
 use Rattle.std.proofs.Common.{inl, inr, ◌≡◌, ℕ, zero, suc, ◌+◌, ◌-◌, ◌<◌, ◌≤◌, Bool, true, false, cond, eqb, List, []}
 use Rattle.std.specs.List.{AllByRecursion}
 use Rattle.std.proofs.Common.{◌∷◌, ◌++◌, length, get_or, set, Option, Some, None, refl, sym, ap, ◌∙◌, arith, subst}
@@ -30,7 +30,7 @@ use Rattle.iol_cache.proofs.Extents.FileEntries.{length-with_order, numbered_bou
 use Rattle.iol_cache.proofs.Evictions.Entries.{hit_entries}
 use Rattle.iol_cache.proofs.Evictions.Ready.{hits_kept, ready_hits, ready_same}
 
--- gaps want no more pages than they have bytes
+-- gaps need no more pages than they have bytes
 pub gap_few : (low high : ℕ) (gs : List Span) → AreInOrder low high gs → gap_pages gs + low ≤ high
 unfolding pages_for
 gap_few low high [] order = omega (arith, order)
@@ -70,7 +70,7 @@ clean_held-same fs f x e =
     flat-with (λ (y : CachedFile). bufs_of (clean_in y.extents.extents)) fs f x
     (ap (λ (es : List Extent). bufs_of (clean_in es)) e)
 
--- a file has another room, and orders have
+-- one file has different room, and so have the orders
 pub same_room : (c d : Cached) (f : ℕ) (x : CachedFile) → (0 < f) × (f ≤ length c.files)
     → d.files ≡ with_file c.files f x → x.pool ≡ (file_in c.files f).pool → x.extents.extents ≡ extents_in c.files f
     → ((p : ℕ) → (order_in d.orders p).entries ≡ (order_in c.orders p).entries)
@@ -100,7 +100,7 @@ same_room c d f x numbered files pool extents entries low kept orders marks = re
   marks = marks;
 }
 
--- an order has another room
+-- one order has different room
 pub order_room : (os : List Ranking) (p : ℕ) (r : Ranking) (q : ℕ) → (0 < p) × (p ≤ length os)
     → r.entries ≡ (order_in os p).entries → (order_in (with_order os p r) q).entries ≡ (order_in os q).entries
 order_room os p r q numbered e = elim (cases_eq q p) [

@@ -17,7 +17,7 @@ use Rattle.iol_cache.proofs.Evictions.RankedEntries.{member_counts, ranked_clean
 use Rattle.iol_cache.proofs.Evictions.RankedEntries.{evicted_fewer}
 use Rattle.iol_cache.proofs.Extents.HeldSlices.{clean_numbered}
 
--- what goes first is a clean extent of the pool's files
+-- the victim is a clean extent of the pool's files
 pub victim_clean : (u : ℕ → ℕ → Bool) (s : Stored) (c : Cached) (p : ℕ) (place : ℕ × ℕ) → IsSound s c
     → IsVictim u (order_in c.orders p).entries place → ((file_in c.files place.0).pool ≡ p)
     × IsCleanAt c.files place.0 place.1
@@ -29,7 +29,7 @@ victim_clean u s c p place sound h =
     let P : ℕ × ℕ → Type 0 = λ q. ((file_in c.files q.0).pool ≡ p) × IsCleanAt c.files q.0 q.1 in
     subst P (sym h.lies) clean
 
--- its order has fewer entries after
+-- the order of its pool has fewer entries after its eviction
 pub evicts_fewer : (old new : Holding) (f at p : ℕ) → IsSound old.store old.cache → Evicts f at old new
     → (file_in old.cache.files f).pool ≡ p
     → length (order_in new.cache.orders p).entries < length (order_in old.cache.orders p).entries
@@ -71,7 +71,7 @@ one_more p wanted place a b c m sound wants first gone = record {
   );
 }
 
--- An eviction leaves the orders of other pools.
+-- An eviction leaves the orders of other pools unchanged.
 pub evicts_others : (old new : Holding) (f at p : ℕ) → Evicts f at old new → (file_in old.cache.files f).pool ≡ p
     → (q : ℕ) → q ≢ p → order_in new.cache.orders q ≡ order_in old.cache.orders q
 evicts_others old new f at p gone pool q ne =
@@ -111,7 +111,7 @@ dirty_all (x ∷ xs) none =
           ap (λ d. cond {A = ℕ} (not d) 1 0) is,
         ))
 
--- where all orders are empty, no extent is clean
+-- if all orders are empty, no extent is clean
 pub all_dirty : (s : Stored) (c : Cached) → IsSound s c → ((p : ℕ) → (order_in c.orders p).entries ≡ []) → (f : ℕ)
     → AllDirty (extents_in c.files f)
 all_dirty s c sound none f =

@@ -57,7 +57,7 @@ clean_change h a fs f x numbered =
       sum-with_file (λ y. h (g y)) fs f x numbered.0 numbered.1,
     )
 
--- What holds after.
+-- The cache after the change.
 
 module _ (old new : Holding) (f : ℕ) (own : List Slice) (sound : IsSound old.store old.cache)
     (there : is_numbered old.cache.files f ≡ true) (puts : Changes f own old new)
@@ -229,7 +229,7 @@ module _ (old new : Holding) (f : ℕ) (own : List Slice) (sound : IsSound old.s
         still = puts.moves.still sound.still;
       }
 
-  -- they lay there already
+  -- if the extents were already laid in the old store, the cache stays sound
   pub sound_changed : AllByRecursion (IsLaid old.store pool) puts.extents.extents
       → last_end puts.extents.extents ≤ MAX_FILE_BYTES
       → IsSound new.store new.cache

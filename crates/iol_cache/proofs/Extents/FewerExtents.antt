@@ -87,7 +87,7 @@ cover-without_at low (x ∷ xs) at e i a h =
           ∙ ap (λ (y : Extent). cond (is_over y i) None (cover (x ∷ xs) i)) same
       here false h ih past = rest (is_over x i) refl (past h) (ih h)
 
--- over the bytes of an extent lies the extent
+-- each byte of an extent is covered by that extent
 pub cover-begins : (low : ℕ) (es : List Extent) (at : ℕ) (e : Extent) (i : ℕ) → IsApart low es
     → begins_at es at ≡ Some e → is_over e i ≡ true → cover es i ≡ Some (cell_at e i)
 cover-begins low [] at e i a h o = absurd cc
@@ -147,7 +147,7 @@ clean_begins low (x ∷ xs) at a h = here (eqb x.at at) refl (clean_begins (end_
       let r = ih (omega (arith, sum_by-cons (begins_clean at) x xs, none, h)) in
       (r.0, ap (λ b. cond b (Some x) (begins_at xs at)) is ∙ r.1, r.2)
 
--- The store goes on.
+-- A step of the store after which all held buffers have their bytes.
 
 covers_parts : {t : Stored} (x : Extent) (xs : List Extent) → Covers t (bufs_of (all_parts (x ∷ xs)))
     → Covers t (bufs_of x.parts) × Covers t (bufs_of (all_parts xs))
@@ -165,7 +165,7 @@ laid_stays p (x ∷ xs) stays c all =
       laid_stays p xs stays both.1 all.1,
     )
 
--- what lies over a byte has the byte that it had
+-- each byte under an extent is unchanged
 pub byte_stays : {s t : Stored} (p : ℕ) (es : List Extent) (i : ℕ) (c : Cell) → Stays s t
     → Covers t (bufs_of (all_parts es)) → AllByRecursion (IsLaid s p) es → cover es i ≡ Some c
     → byte_in t c.place ≡ byte_in s c.place

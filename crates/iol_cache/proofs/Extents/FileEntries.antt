@@ -253,7 +253,7 @@ sum-put_in-entry w (x ∷ xs) e = here (ranking.lies_before x e.file e.at) (sum-
   here false ih = sum_by-cons w e (x ∷ xs)
   here true ih = omega (arith, sum_by-cons w x xs, sum_by-cons w x (ranking.put_in xs e), ih)
 
--- what does not look at heights
+-- a sum that does not depend on heights
 pub sum-map_entry : (w : Entry → ℕ) (g : Entry → Entry) (es : List Entry) → ((e : Entry) → w (g e) ≡ w e)
     → sum_by w (map g es) ≡ sum_by w es
 sum-map_entry w g [] h = refl

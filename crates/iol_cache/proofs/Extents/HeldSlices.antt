@@ -1,4 +1,4 @@
--- Slices of extents are held, and who else holds their buffers.
+-- The references of extents, and those of others to the same buffers.
 use Rattle.std.proofs.Common.{inl, inr, ◌≡◌, ℕ, ◌<◌, ◌≤◌, Bool, true, false, cond, List, [], ◌∷◌, length, get_or, Some}
 use Rattle.std.proofs.Common.{None, refl, sym, ap, ◌∙◌, arith}
 use Rattle.std.specs.Prelude.{nat_lt, ◌||◌}
@@ -35,7 +35,7 @@ none_begins fs f at e none h =
     let g : begins_at (extents_in fs f) at ≡ None = ap (λ (x : CachedFile). begins_at x.extents.extents at) none in
     cc
 
--- a file that has an extent stands
+-- a file that has an extent is a file of the cache
 pub begins_numbered : (fs : List CachedFile) (f at : ℕ) (e : Extent) → begins_at (extents_in fs f) at ≡ Some e
     → is_numbered fs f ≡ true
 begins_numbered fs f at e h = pick (is_numbered fs f) refl where
@@ -141,7 +141,7 @@ pub are_within : {s : Stored} (xs : List Slice) (n : ℕ) → n ≡ page_count s
     → AreWithin n xs
 are_within xs n is c = record { each = within_pages (bufs_of xs) n is c }
 
--- the marks of a live buffer are its holds by clean extents
+-- the mark of a live buffer is the number of its references by clean extents
 pub mark_is : {s : Stored} (fs : List CachedFile) {marks : List ℕ} (b : BufId) → Covers s (held fs)
     → Counted marks (clean_held fs) → IsLive s.arena b → get_or marks b.page 0 ≡ tally b (clean_held fs)
 mark_is {s = s} fs b covers counted live = counted.each b.page

@@ -1,4 +1,4 @@
--- What lies over the bytes of files, after evictions, after reads and after writes.
+-- The extents over the bytes of files after evictions, reads and writes.
 use Rattle.std.proofs.Common.{inl, inr, ◌≡◌, ◌⊎◌, ◌∙◌, ℕ, ◌+◌, ◌<◌, ◌≤◌, Bool, true, false, cond, List, [], ◌∷◌, length}
 use Rattle.std.proofs.Common.{Option, Some, None, refl, sym, ap, arith, subst}
 use Rattle.std.proofs.lemmas.Bool.{cases_eq}
@@ -120,7 +120,7 @@ pub evictions_keep : (p : ℕ) (w : Option ℕ) (old new : Holding) → EvictsAl
     → KeepsDirty old.cache new.cache
 evictions_keep p w old new x apart = (all_keep p w x.places old new x.each apart).0
 
--- where so many pages are free, nothing goes
+-- if that many pages are free, no extent is evicted
 none_go : (p n : ℕ) (vs : List (ℕ × ℕ)) (old new : Holding) → n ≤ length (free_of old.store p)
     → AreEvicted p (Some n) vs old new → new ≡ old
 none_go p n [] old new free is = is
@@ -202,7 +202,7 @@ module _ (f at n : ℕ) (disk : Disk) (old new : Holding) (xs : List Slice) (the
       (filled_keeps f x.range.from x.range.to mid u.full (places r.pins) r.gaps disk xs mid_there pinned.tile.gaps
       empty u.fills)
 
-  -- nothing was missing
+  -- no byte was missing
   all_shared : IsAllShared r.pins r.gaps r.hit new xs → KeepsCover r.hit.cache new.cache
   all_shared e = cover_same r.hit.cache new.cache (λ g. ap (λ (h : Holding). extents_in h.cache.files g) e.same)
 
@@ -219,7 +219,7 @@ module _ (f at n : ℕ) (disk : Disk) (old new : Holding) (xs : List Slice) (the
       dirty_then old.cache r.hit.cache new.cache
       (dirty_of old.cache r.hit.cache (hit_keeps f x.range.from x.range.to old r.hit r.pins r.gaps pinned)) later
 
-  -- where the pages that its gaps want are free
+  -- if the pages for its gaps are free
   pub read_keeps_all : gap_pages r.gaps ≤ length (free_of r.hit.store (file_in r.hit.cache.files f).pool)
       → KeepsCover old.cache new.cache
   read_keeps_all free =
@@ -251,7 +251,7 @@ pub refused_keeps : (f at n : ℕ) (disk : Disk) (old new : Holding) (y : Refusa
     → RefusesRead f at n disk old new y → KeepsDirty old.cache new.cache
 refused_keeps f at n disk old new y apart x = leaves_keeps f x.range.from x.range.to old new y apart x.leaves
 
--- Writes, beside the range that is written.
+-- Writes, outside the range that is written.
 
 module _ (f at : ℕ) (source : List Slice) (old new : Holding) (there : is_numbered old.cache.files f ≡ true)
     (x : WritesFile f at source old new) where
@@ -264,7 +264,7 @@ module _ (f at : ℕ) (source : List Slice) (old new : Holding) (there : is_numb
   start_keeps : KeepsCover old.cache x.room.reserved
   start_keeps = cover_same old.cache x.room.reserved x.room.rooms.extents
 
-  -- the byte is not of the range
+  -- the byte is not in the range
   abbrev IsBeside : (g i : ℕ) → Type 0
   IsBeside g i = g ≡ f → (i < at) ⊎ (at + byte_len source ≤ i)
 
@@ -318,7 +318,7 @@ module _ (f at : ℕ) (source : List Slice) (old new : Holding) (there : is_numb
         | inr clean ↦ inr clean
       ]
 
-  -- where the pages of its copies are free
+  -- if the pages of its copies are free
   pub write_keeps_all : (let p = (file_in old.cache.files f).pool in
       copied_pages p source ≤ length (free_of old.store p)) → (g i : ℕ) (c : Cell) → IsBeside g i
       → cover (extents_in old.cache.files g) i ≡ Some c → cover (extents_in new.cache.files g) i ≡ Some c

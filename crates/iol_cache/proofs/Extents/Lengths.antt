@@ -1,4 +1,4 @@
--- How long a file is.
+-- The length of a file.
 use Rattle.std.proofs.Common.{◌≡◌, ℕ, true, List, length, arith}
 use Rattle.std.proofs.lemmas.List.{length-map}
 use Rattle.std.specs.List.{range_with_len}
@@ -21,7 +21,7 @@ length-file_bytes g stored es =
       length-range_with_len 0 (file_len stored es),
     )
 
--- where the store is honest, the end for a read is that of the file
+-- with an honest store, the end for a read is that of the file
 pub end_is : (disk : Disk) (h : Holding) (f end : ℕ) → is_numbered h.cache.files f ≡ true → IsEnd disk h.cache f end
     → IsBacked disk h → end ≡ length (bytes_in_slot h.store disk.slots h.cache.files f)
 end_is disk h f end there ends backed =

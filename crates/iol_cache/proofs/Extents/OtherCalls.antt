@@ -1,4 +1,4 @@
--- The store goes on by calls of others: a cache over it stays sound, and every file reads as it did.
+-- Steps of the store by other calls: a cache over it stays sound, and every file keeps its bytes.
 use Rattle.std.proofs.Common.{inl, inr, ◌≡◌, ◌≢◌, ℕ, zero, suc, ◌-◌, Bool, true, false, List, [], ◌∷◌, ◌++◌, map}
 use Rattle.std.proofs.Common.{length, get_or, refl, sym, ap, ◌∙◌, subst, arith}
 use Rattle.std.proofs.lemmas.Bool.{cases_eq, cases_lt}
@@ -31,7 +31,7 @@ pub record AreOpen (ps : List Pool) (fs : List CachedFile) : Type 0 where
 pub open_all : {s : Stored} {c : Cached} → IsSound s c → AreOpen s.pools c.files
 open_all sound = record { each = λ f is. (sound.opened f is).is_open }
 
--- where each pool that was open is open
+-- if each pool that was open is open
 pub open_kept : (ps qs : List Pool) (fs : List CachedFile)
     → ((p : ℕ) → (pool_in ps p).closed ≡ false → (pool_in qs p).closed ≡ false) → AreOpen ps fs → AreOpen qs fs
 open_kept ps qs fs keeps all = record { each = λ f is. keeps (file_in fs f).pool (all.each f is) }
@@ -77,14 +77,14 @@ open_more ps x p is = elim (cases_eq p 0) [
   ]
 ]
 
--- with one pool more
+-- with one more pool
 pub open_added : (s t : Stored) (fs : List CachedFile) (x : machine.Pool)
     → map pool_meant t.pools ≡ map pool_meant s.pools ++ x ∷ [] → AreOpen s.pools fs → AreOpen t.pools fs
 open_added s t fs x added = open_kept s.pools t.pools fs (λ p is.
     sym (closed-meant t.pools p) ∙ ap (λ ps. closed_in ps p) added
     ∙ open_more (map pool_meant s.pools) x p (closed-meant s.pools p ∙ is))
 
--- where a pool closed that no file is of
+-- if a pool closed that no file is of
 pub open_closed : (s t : Stored) (fs : List CachedFile) (p : ℕ)
     → ((f : ℕ) → is_numbered fs f ≡ true → (file_in fs f).pool ≢ p)
     → map pool_meant t.pools ≡ map pool_meant (with_closed s.pools p) → AreOpen s.pools fs → AreOpen t.pools fs
@@ -94,14 +94,14 @@ open_closed s t fs p none closed all = record {
       ∙ ap (λ (x : Pool). x.closed) (pool_in-closed s.pools p q (none f is)) ∙ all.each f is);
 }
 
--- What extents hold is held still.
+-- The references of the extents remain.
 
 pub covers_moved : {s t : Stored} (own taken given : List BufId) → Counts s t taken given → Covers s (own ++ taken)
     → Covers t (own ++ given)
 covers_moved own taken given m covers =
     record { each = λ b. omega (arith, covers.each b, m.each b, tally-append b own taken, tally-append b own given) }
 
--- where the holds that were taken are beside those of the extents
+-- if the released references are in addition to those of the extents
 pub held_beside : {s t : Stored} (own taken given : List BufId) → Counts s t taken given → Covers s (own ++ taken)
     → Covers t own
 held_beside own taken given m covers =
@@ -125,13 +125,13 @@ sound_stays c sound stays covers open_pools pages tidy still = record {
   still = still;
 }
 
--- holds came and went, and what extents hold is held still
+-- references were taken and released, and those of the extents remain
 pub sound_moved : {s t : Stored} {taken given : List BufId} (c : Cached) → IsSound s c → Moves s t taken given
     → Covers t (held c.files) → AreOpen t.pools c.files → page_count t.arena ≡ page_count s.arena → IsSound t c
 sound_moved c sound moves covers open_pools pages =
     sound_stays c sound moves.stays covers open_pools pages (moves.tidy sound.tidy) (moves.still sound.still)
 
--- holds beside those of the extents became others
+-- references in addition to those of the extents were exchanged
 pub sound_beside : {s t : Stored} (taken given : List BufId) (c : Cached) → IsSound s c
     → Covers s (held c.files ++ taken) → Moves s t taken given → SameLists s t → page_count t.arena ≡ page_count s.arena
     → IsSound t c
@@ -142,7 +142,7 @@ sound_beside {s = s} {t = t} taken given c sound covers moves lists pages =
 pub held_still : {s t : Stored} (own : List BufId) → Counts s t [] [] → Covers s own → Covers t own
 held_still own m covers = record { each = λ b. omega (arith, covers.each b, m.each b, tally_none b) }
 
--- Files read as they did.
+-- Files keep their bytes.
 
 pub slot_stays : {s t : Stored} (slots : List (List ℕ)) (fs : List CachedFile) (f : ℕ)
     → ((g : ℕ) → IsFiled s (file_in fs g)) → Stays s t → Covers t (held fs)

@@ -95,7 +95,7 @@ goes_cache d own s c e count pools extents same = record {
   files = λ honest h. record { each = λ f. ap (file_bytes (byte_in s) (content d.slots f)) (extents f) };
 }
 
--- only the store went on: of what others hold, some went and some came
+-- only the store changed: of the references that others have, some were released and some were taken
 pub goes_moved : (d : Disk) (own more gone come : List BufId) (s t : Stored) (c : Cached)
     → ((x : BufId) → tally x own + tally x come ≡ tally x gone + tally x more) → IsSound s c → Moves s t gone come
     → Covers t (held c.files) → SameLists s t → (AllReclaimed s → AllReclaimed t)
@@ -143,7 +143,7 @@ covers_left s xs ys covers = record { each = λ x. omega (arith, covers.each x, 
 pub covers_right : (s : Stored) (xs ys : List BufId) → Covers s (xs ++ ys) → Covers s ys
 covers_right s xs ys covers = record { each = λ x. omega (arith, covers.each x, tally-append x xs ys) }
 
--- Hits leave room.
+-- Hits do not use reserved room.
 
 pub hits_entries_left : (s : Stored) (r e : Cached) (f n : ℕ) (hits : List Span) → IsSound s r
     → is_numbered r.files f ≡ true → CountsHits f hits r e → n ≤ (order_in r.orders (file_in r.files f).pool).room

@@ -1,4 +1,4 @@
--- A cache over a store that goes on; marks that are few.
+-- A cache over a store that makes a step, and marks that are few.
 use Rattle.std.proofs.Common.{inl, inr, ◌≡◌, ℕ, ◌<◌, ◌≤◌, Bool, true, false, cond, eqb, List, [], ◌∷◌, get_or, Option}
 use Rattle.std.proofs.Common.{Some, None, refl, sym, ap, arith, subst}
 use Rattle.std.specs.List.{All}
@@ -25,7 +25,7 @@ use Rattle.iol_cache.proofs.Extents.HeldSlices.{sum-clean_held}
 use Rattle.iol_cache.proofs.Extents.FileEntries.{additive_tally}
 use Rattle.iol_cache.proofs.Extents.OtherCalls.{held_still, open_all, open_same, sound_moved}
 
--- the store goes on, and all that extents hold is still held
+-- the store made a step, and the references of the extents remain
 pub sound_on : (s t : Stored) (c : Cached) {xs ys : List BufId} → IsSound s c → Moves s t xs ys
     → Covers t (held c.files) → SameLists s t → page_count t.arena ≡ page_count s.arena → IsSound t c
 sound_on s t c sound moves covers lists pages =

@@ -49,7 +49,7 @@ use Rattle.iol_cache.proofs.RangeReads.PutExtents.{zip_begins, made_clean, all_e
 use Rattle.iol_cache.proofs.RangeReads.WholeRange.{tally-all_put, made_laid}
 use Rattle.iol_cache.proofs.Evictions.Ready.{dirty-all_put, entered_kept, entered_low}
 
--- Sums over what was put in.
+-- Sums over the extents that were put in.
 
 clean_sums : (h : List BufId → ℕ) (s t : Stored) (p : ℕ) (gs : List Span) (made : List Extent)
     → AllZip (IsMade s t p) gs made → sum_by (λ (e : Extent). h (bufs_of (clean_parts e))) made
@@ -92,7 +92,7 @@ ends_below s t p low high (g ∷ gs) (e ∷ made) order zip =
     last high low [] h = h
     last high low (s ∷ ss) h = omega (arith, last high s.to ss h.2, h.0, h.1)
 
--- What holds after.
+-- The cache and the store after the file was completed.
 
 module _ (old new : Holding) (f from to : ℕ) (beside : List Place) (gs : List Span) (disk : Disk) (xs : List Slice)
     (sound : IsSound old.store old.cache) (there : is_numbered old.cache.files f ≡ true) (order : AreInOrder from to gs)

@@ -1,4 +1,4 @@
--- The bytes of a range that lie beside its gaps lie under extents.
+-- The bytes of a range outside its gaps are under extents.
 use Rattle.std.proofs.Common.{inl, inr, ◌⊎◌, ℕ, ◌<◌, ◌≤◌, List, [], ◌∷◌, IsSome, arith}
 use Rattle.iol_extent.specs.Extents.{Extent, cover}
 use Rattle.iol_extent.specs.Spans.{AreInOrder, LiesIn, Tile}

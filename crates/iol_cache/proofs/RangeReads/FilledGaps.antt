@@ -54,7 +54,7 @@ take-plus (suc m) n k [] e = nothing_taken k ∙ sym (nothing_taken n)
 take-plus (suc m) n zero (x ∷ xs) e = absurd (omega (arith, e))
 take-plus (suc m) n (suc k) (x ∷ xs) e = ap (λ l. x ∷ l) (take-plus m n k xs (omega (arith, e)))
 
--- what was filled is not filled again
+-- a page that was filled is not filled again
 pub filled_once : {s t : Stored} {p k : ℕ} (n : ℕ) → PlacesPages s t p k → (q : ℕ) → Contains (take k (free_of s p)) q
     → Contains (take n (free_of t p)) q → ⊥
 filled_once {s = s} {t = t} {p = p} {k = k} n m q first again =
@@ -154,7 +154,7 @@ order_wide low high a b (g ∷ gs) lo hi o =
 pub span_next : (gs : List Span) (i : ℕ) (d : Span) → i < length gs → drop i gs ≡ get_or gs i d ∷ drop (i + 1) gs
 span_next gs i d h = drop-cons gs i d h ∙ ap (λ k. get_or gs i d ∷ drop k gs) (sym (add-one i))
 
--- The gaps that are left.
+-- The remaining gaps.
 
 pub gaps_left : (es es' : List Extent) (e : Extent) (high : ℕ) (rest : List Span) → AreInOrder (end_of e) high rest
     → All (IsGapSpan es) rest → Adds es e es' → All (IsGapSpan es') rest
@@ -171,7 +171,7 @@ gap_pages-take gs zero = omega arith
 gap_pages-take [] (suc i) = omega arith
 gap_pages-take (g ∷ gs) (suc i) = omega (arith, gap_pages-take gs i)
 
--- One gap more.
+-- One more gap.
 
 zip_push : {A B : Type 0} (R : A → B → Type 0) (xs : List A) (ys : List B) (x : A) (y : B) → AllZip R xs ys → R x y
     → AllZip R (xs ++ x ∷ []) (ys ++ y ∷ [])
@@ -239,7 +239,7 @@ mirror_stay t u p stored (g ∷ gs) (e ∷ made) s stays c zip all =
     (record { within = here.within; is = text_stays e.parts stays both.0 zip.0.readable ∙ here.is })
     (mirror_stay t u p stored gs made s stays both.1 zip.1 (λ k d h. all (suc k) d (omega arith)))
 
--- a buffer that is new after pages were filled was not there before either
+-- pages were filled twice: a buffer that is new in the second step is new since before the first one
 new_since : (s t u : Stored) (p k n : ℕ) (b : BufId) → PlacesPages s t p k → PlacesPages t u p n
     → IsNew t.arena u.arena b → IsNew s.arena u.arena b
 new_since s t u p k n b first then new =
@@ -316,7 +316,7 @@ fills_more s t u old mid new p file gs g d e honest slots a b =
       };
     }
 
--- Gaps that were filled, taken back.
+-- Filled gaps, and their extents taken back.
 
 zip_begin : (s t : Stored) (p : ℕ) (gs : List Span) (made : List Extent) → AllZip (IsMade s t p) gs made
     → AllZip Begin gs made
@@ -332,7 +332,7 @@ zip_read s t p [] (e ∷ made) all = absurd all
 zip_read s t p (g ∷ gs) [] all = absurd all
 zip_read s t p (g ∷ gs) (e ∷ made) all = All-cons (CanRead t) e made all.0.readable (zip_read s t p gs made all.1)
 
--- what `take_back` wants of them, and what it leaves
+-- the conditions of `take_back`, and its result: the old extents, and the slices of those taken back
 pub record CanTakeBack (t : Stored) (old mid : List Extent) (gs : List Span) (bufs : List BufId) : Type 0 where
   pub begin : AllBegin mid gs
   pub without : without_spans mid gs ≡ old
@@ -370,8 +370,7 @@ moved_back m n o same = record {
   tidy = λ h. o.tidy (n.tidy (m.tidy h));
 }
 
--- pages that were filled, then nothing was placed, and some were freed
--- a refusal that is handed on, told of a pool that is the same
+-- a refusal passed on, with equal pools and equal numbers of pages
 pub leaves_as : {A B : Type 0} {p q m n : ℕ} {s t : Stored} {x : Refusal} → p ≡ q → m ≡ n
     → PlacesOrReleases {A = A} p m s t (Err x) → PlacesOrReleases {A = B} q n s t (Err x)
 leaves_as {p = p} {n = n} {s = s} {t = t} pool pages h = record {
@@ -382,6 +381,7 @@ leaves_as {p = p} {n = n} {s = s} {t = t} pool pages h = record {
   no_room = λ r is. omega (arith, h.no_room r is, pages, ap (λ k. length (free_of s k)) pool);
 }
 
+-- pages were filled, then nothing was placed, and some pages were freed
 pub placed_some : {s t u v : Stored} {p k : ℕ} (n : ℕ) → k ≤ n → PlacesPages s t p k → KeepsPages t u [] → FreesOnly u v
     → u.pools ≡ t.pools → PlacesSome s v p n
 placed_some {s = s} {t = t} {u = u} {v = v} {p = p} {k = k} n few a b c same =
@@ -417,7 +417,7 @@ placed_some {s = s} {t = t} {u = u} {v = v} {p = p} {k = k} n few a b c same =
 pub same_map : (m n : ExtentMap) → m.extents ≡ n.extents → m.room ≡ n.room → m ≡ n
 same_map m n e r = λ i. record { extents = e i; room = r i }
 
--- Gaps that were filled were taken back, after a step that left nothing.
+-- The extents of filled gaps were taken back, after a step that kept no new reference.
 pub taken_back : {A : Type 0} {s t u v : Stored} {old mid new : ExtentMap} {p file : ℕ} {gs : List Span} {d e : Disk}
     (all : List Span) (x : Refusal) (f : FillsGaps s t old mid p gs d file)
     → CanTakeBack t old.extents mid.extents gs (bufs_of (all_parts f.made)) → Moves t u [] []
@@ -442,7 +442,7 @@ taken_back {old = old} {mid = mid} {new = new} {gs = gs} all x f can none lists 
       late = late;
     }
 
--- What a call asked the store for, after others that did not fail.
+-- The requests to the store by a call, after others that did not fail.
 
 counts_after : (n : ℕ) (a b c : Disk) (x : Refusal) → 0 < n → b.failures ≡ a.failures → AskCounts {A = ℕ} 1 b c (Err x)
     → AskCounts {A = ℕ} n a c (Err x)
@@ -459,7 +459,7 @@ asks_after {a = a} {b = b} {c = c} {x = x} n some honest slots same h =
           counts_after n a b c x some same h.counts;
     }
 
--- what is told of a pool that is the same, and of what stays
+-- the same facts of an equal pool, with a weaker fact for an error
 pub reads_as : {A S T : Type 0} {p q file : ℕ} {gs : List Span} {d e : Disk} {s t : Stored} {r : Result A Refusal}
     → p ≡ q → (OnErr r S → OnErr r T) → ReadsAllGaps p file gs S d e s t r → ReadsAllGaps q file gs T d e s t r
 reads_as {T = T} {p = p} {file = file} {gs = gs} {d = d} {e = e} {s = s} {t = t} {r = r} pool stays h =
@@ -467,7 +467,7 @@ reads_as {T = T} {p = p} {file = file} {gs = gs} {d = d} {e = e} {s = s} {t = t}
     record { same = stays h.same; leaves = h.leaves; asks = h.asks; late = h.late } in
     subst (λ k. ReadsAllGaps k file gs T d e s t r) pool here
 
--- a refusal of the gaps is one of the range
+-- a refusal for the gaps is a refusal for the range
 pub reads_refused : {A B S T : Type 0} {p file : ℕ} {gs : List Span} {d e : Disk} {s t : Stored} {x : Refusal} → (S → T)
     → ReadsAllGaps {A = A} p file gs S d e s t (Err x) → ReadsAllGaps {A = B} p file gs T d e s t (Err x)
 reads_refused stays h = record {

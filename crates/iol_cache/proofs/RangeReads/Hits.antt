@@ -1,4 +1,4 @@
--- A read of a file whose hits were shared: what its rest needs, and what the whole did.
+-- A read of a file whose hits were shared: the conditions of the rest, and the effect of the whole read.
 use Rattle.std.proofs.Common.{◌≡◌, ℕ, ◌+◌, ◌<◌, ◌≤◌, ◌^◌, true, List, [], ◌∷◌, ◌++◌, length, map, Result, IfOk, IfErr}
 use Rattle.std.proofs.Common.{OnErr, refl, sym, ap, ◌∙◌, arith, subst, inl, inr}
 use Rattle.std.specs.List.{All}
@@ -53,7 +53,7 @@ beside_there {s = s} es at to (g ∷ gs) covered all =
     All-append (IsThere s) (places_over es at g.from) (places_beside es g.to to gs)
     (over_there {s = s} es at g.from covered.0 all) (beside_there {s = s} es g.to to gs covered.1 all)
 
--- A read of a file whose hits were shared. These gaps are left.
+-- A read of a file whose hits were shared, with its remaining gaps.
 pub record HitsShared (f at n : ℕ) (d : Disk) (a b : Holding) (pins : List Slice) (gs : List Span) : Type 0 where
   pub range : Range d a.cache f at n
   pub sound : IsSound a.store a.cache
@@ -71,7 +71,7 @@ module _ {f at n : ℕ} {d : Disk} {a b : Holding} {pins : List Slice} {gs : Lis
   abbrev to : ℕ
   to = h.range.to
 
-  -- the pages that are wanted while the hits are held, and those that the pool has
+  -- the pages that are needed while the hits are held, and the pages of the pool
   abbrev wanted : ℕ
   wanted = pinned_beside b.store (clean_held b.cache.files) (file_in b.cache.files f).pool + gap_pages gs
 
@@ -94,7 +94,7 @@ module _ {f at n : ℕ} {d : Disk} {a b : Holding} {pins : List Slice} {gs : Lis
   numbered_hit = ap (λ (fs : List CachedFile). is_numbered fs f) h.pinned.counted.files
       ∙ numbered_same a.cache h.pinned.reserved f h.pinned.rooms h.there
 
-  -- What the gaps need to be filled.
+  -- The gaps can be filled.
 
   can_fill : CanFill b.cache f from to gs
   can_fill = record {
@@ -165,7 +165,7 @@ module _ {f at n : ℕ} {d : Disk} {a b : Holding} {pins : List Slice} {gs : Lis
       (goes_cache d (bufs_of pins) b.store a.cache b.cache (ap length h.pinned.counted.files ∙ h.pinned.rooms.files)
       pool_same extents_same held_same)
 
-  -- where the bytes of the range lie in the end
+  -- the places of the range's bytes in the result
   lies_read : (c : Holding) (xs : List Slice) → CompletesRange f from to pins gs d b c xs
       → places xs ≡ places_read es (extents_in c.cache.files f) from to gs
   lies_read c xs (inl e) = ap places e.all ∙ h.pinned.lies ∙ ap (places_beside es from to) e.none
@@ -200,7 +200,7 @@ module _ {f at n : ℕ} {d : Disk} {a b : Holding} {pins : List Slice} {gs : Lis
         read_long es new from to gs,
       )
 
-  -- The room that there is while these are held.
+  -- The room, while the hits are held.
   pub room_hit : (r : Result (List Slice) Refusal) → ReportsRoom (wanted ≤ pages) (pages < wanted) r
       → ReportsRoom (RoomToRead f at n d a) (NoRoomToRead f at n d a) r
   room_hit r reported =
@@ -237,7 +237,7 @@ module _ {f at n : ℕ} {d : Disk} {a b : Holding} {pins : List Slice} {gs : Lis
         at_most b.store (clean_held b.cache.files) (pages_of b.store (file_in b.cache.files f).pool),
       )
 
-  -- With gaps, which were filled then, or were not.
+  -- With gaps, which were filled, or were not.
   module _ {e : Disk} {c : Holding} {r : Result (List Slice) Refusal} (filled : FillsPinned f from to pins gs d e b c r)
     where
       pub reads_filled : IfOk r (ReadsFile f at n d a c)

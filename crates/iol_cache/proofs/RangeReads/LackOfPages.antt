@@ -1,4 +1,4 @@
--- A refusal: the pages that were wanted could be had, or no extent went.
+-- A refused read: there is room for the range, or all extents are unchanged.
 use Rattle.std.proofs.Common.{◌≡◌, ◌⊎◌, ℕ, ◌+◌, ◌<◌, List, length, ap, ◌∙◌, arith, inl, inr}
 use Rattle.std.specs.List.{flat_map}
 use Rattle.iol_core.specs.declared.numbers.BufId.{BufId}
@@ -19,7 +19,7 @@ use Rattle.iol_cache.specs.PinnedPages.{pinned_beside}
 use Rattle.iol_cache.specs.Ranges.{PinsRange}
 use Rattle.iol_cache.specs.ReadResults.{LeavesRange, RefusesRead, RoomToRead}
 
--- The room that there is while hits are held.
+-- The room while hits are held.
 module _ (f from to : ℕ) (a b : Holding) (pins : List Slice) (gs : List Span) (x : PinsRange f from to a b pins gs)
   where
     abbrev p : ℕ

@@ -1,4 +1,4 @@
--- What reads and writes do to pages.
+-- The effects of reads and writes on pages.
 use Rattle.std.proofs.Common.{inl, inr, ◌≡◌, ◌∙◌, ℕ, true, false, List, [], ◌+◌, ap, subst, refl, sym}
 use Rattle.iol_core.specs.declared.refusals.Refusal.{Refusal}
 use Rattle.iol_core.specs.declared.numbers.BufId.{BufId}
@@ -30,7 +30,7 @@ pub frees_shares : {s t : Stored} {taken given : List BufId} → Shares s t take
 frees_shares {s = s} {t = t} m =
     frees_none s t (ap (λ (a : State). a.entries) m.arena) (ap (λ (a : State). a.limit) m.arena) m.pools
 
--- what is closed after releases was closed before
+-- a pool that is closed after releases was closed before
 closed_before : {s t : Stored} → FreesOnly s t → (p : ℕ) → (pool_in t.pools p).closed ≡ true
     → (pool_in s.pools p).closed ≡ true
 closed_before {s = s} x p shut = elim (bool_cases (pool_in s.pools p).closed) [
@@ -77,7 +77,7 @@ keeps_roomy {a = a} {b = b} {c = c} m n = record {
   returned = λ p is. all_or_none a b c p (m.chunks p) (n.returned p is);
 }
 
--- What a caller learns of pages: those that were filled are of the pool, which keeps all that it has.
+-- All pages except the filled ones are unchanged or were freed.
 
 pub pages_kept : {p : ℕ} {old new : Stored} (x : FillsLowest p old new) → KeepsPages old new (filled_pages x)
 pages_kept x = keeps_roomy x.frees x.pages
@@ -87,7 +87,7 @@ pub fills_none : (p : ℕ) {s t : Stored} → FreesOnly s t → FillsLowest p s 
 fills_none p {s = s} {t = t} frees =
     record { roomy = t; frees = frees; count = 0; pages = keeps_pages_same t t refl refl }
 
--- Evictions alone.
+-- Evictions only.
 pub given_up_pages : (old new : Holding) → GivesUp old new → KeepsPages old.store new.store []
 given_up_pages old new x = keeps_pages_frees x.frees
 

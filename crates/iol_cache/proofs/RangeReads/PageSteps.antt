@@ -1,4 +1,4 @@
--- What becomes of pages: where bytes were placed, where a placing was given up, and one step after another.
+-- Pages after bytes were placed, after a placement was given up, and over several steps.
 use Rattle.std.proofs.Common.{inl, inr, ◌≡◌, zero, suc, ◌∷◌, get_or, All, true, false, ℕ, ◌+◌, ◌<◌, ◌≤◌, List, []}
 use Rattle.std.proofs.Common.{length, take, drop, map, refl, sym, ap, ◌∙◌, arith, subst}
 use Rattle.std.specs.List.{Contains, flat_map, range_with_len}
@@ -40,11 +40,11 @@ free_kind Pending h = cc
 free_kind (Head n) h = cc
 free_kind (Tail p) h = cc
 
--- nothing stands on a page that may be used
+-- a usable page is free
 pub usable_free : (s : State) (q : ℕ) → usable s q ≡ true → (entry_at s q).kind ≡ Free
 usable_free s q h = free_kind (entry_at s q).kind (and_left (kind_free (entry_at s q).kind) _ h)
 
--- too few are free where there is no room
+-- without room, too few pages are free
 pub few_free : (s : Stored) (p n : ℕ) → has_room s p n ≡ false → length (free_of s p) < pages_for n
 few_free s p n h = elim (cases_lt (length (free_of s p)) (pages_for n)) [
   | inl l ↦ l
@@ -106,7 +106,7 @@ get_map f [] i d e h = absurd (omega arith)
 get_map f (x ∷ xs) zero d e h = refl
 get_map f (x ∷ xs) (suc i) d e h = get_map f xs i d e (omega arith)
 
--- on each page that was filled a buffer stands
+-- each filled page has a buffer
 pub made_stands : {s t : State} {bufs : List BufId} {placed : List ℕ} → MadeOn s t bufs placed → All (IsLive t) bufs
     → HasRuns t.entries → (q : ℕ) → Contains placed q → kind_free (entry_at t q).kind ≡ false
 made_stands {s = s} {t = t} {bufs = bufs} {placed = placed} m live runs q h =

@@ -27,7 +27,7 @@ use Rattle.iol_cache.proofs.Evictions.Entries.{entered_entries}
 use Rattle.iol_cache.proofs.RangeReads.FilledGaps.{gaps_left, order_wide}
 use Rattle.iol_cache.proofs.RangeReads.TakenBack.{NoneBegins, Begin, none_beside, begins_at-beside, begins_at-put_in}
 
--- each of these extents lies in a gap that those before it leave
+-- each of these extents has a byte, and its range is a gap when those before it were put in
 unfoldable pub Fits : List Extent → List Extent → Type 0
 Fits es [] = Unit {0}
 Fits es (e ∷ made) = IsGap es e.at (end_of e) × (0 < byte_len e.parts) × Fits (put_in es e) made
@@ -66,7 +66,7 @@ cover-put es e i g = cover-put_in es e i (gap_over es e i g)
 pub adds-put : (es : List Extent) (e : Extent) → IsGap es e.at (end_of e) → Adds es e (put_in es e)
 adds-put es e g = record { each = λ i. cover-put es e i g }
 
--- what gaps have made fits
+-- the extents made for gaps fit
 pub made_fits : (s t : Stored) (p low high : ℕ) (es : List Extent) (gs : List Span) (made : List Extent)
     → AreInOrder low high gs → All (IsGapSpan es) gs → AllZip (IsMade s t p) gs made → Fits es made
 unfolding Fits
@@ -85,7 +85,7 @@ made_fits s t p low high es (g ∷ gs) (e ∷ made) order all zip =
           (gaps_left es (put_in es e) e high gs next (All-tail (IsGapSpan es) g gs all) (adds-put es e gap)) zip.1,
     )
 
--- What lies over a byte.
+-- The extent over a byte.
 
 some_over : (b : Bool) (c d : Cell) (o : Option Cell) → (b ≡ true → o ≡ None) → o ≡ Some d → cond b (Some c) o ≡ Some d
 some_over true c d o none h = absurd (no_both (none refl) h)
@@ -234,7 +234,7 @@ unfolding all_put
 each-all_put P es [] all more = all
 each-all_put P es (e ∷ made) all more = each-all_put P (put_in es e) made (each-put_in P es e all more.0) more.1
 
--- What begins at a place.
+-- The extent that begins at a place.
 
 pub kept_begins : (es : List Extent) (low high at : ℕ) (gs : List Span) (made : List Extent) → at < low
     → AreInOrder low high gs → AllZip Begin gs made → begins_at (all_put es made) at ≡ begins_at es at
@@ -274,7 +274,7 @@ zip_begins s t p [] (e ∷ made) all = absurd all
 zip_begins s t p (g ∷ gs) [] all = absurd all
 zip_begins s t p (g ∷ gs) (e ∷ made) all = (all.0.begins, zip_begins s t p gs made all.1)
 
--- Entries of what came in.
+-- The entries of the new extents.
 
 abbrev pub one_from : (at : ℕ) → Span → ℕ
 one_from at s = cond {A = ℕ} (eqb s.from at) 1 0
@@ -329,7 +329,7 @@ all_entries-other r f g es (x ∷ gs) b ne =
     none : (c : Bool) → cond {A = ℕ} (eqb f g && c) 1 0 + entries_at g b r.entries ≡ entries_at g b r.entries
     none c = grind (arith, nat_tests, ne)
 
--- nothing of the order is where gaps are
+-- the order has no entry where a gap begins
 pub absent_gaps : (r : Ranking) (f : ℕ) (es : List Extent) (low high : ℕ) (gs : List Span)
     → ((at : ℕ) → entries_at f at r.entries ≡ clean_at at es) → NoneBegins es low gs → AreAbsent r f gs
 absent_gaps r f es low high [] ranked none = tt

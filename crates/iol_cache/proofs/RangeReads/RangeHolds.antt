@@ -1,4 +1,4 @@
--- A range that is read after its hits were shared: how its holds go.
+-- A range that is read after its hits were shared: the references, step by step.
 use Rattle.std.proofs.Common.{inl, ◌≡◌, ℕ, ◌+◌, ◌-◌, ◌<◌, ◌≤◌, Bool, true, IsTrue, List, [], ◌∷◌, ◌++◌, length, IsSome}
 use Rattle.std.proofs.Common.{None, Some, Result, Ok, Err, IfOk, IfErr, OnErr, refl, sym, ap, ◌∙◌, arith, subst}
 use Rattle.std.specs.Prelude.{take, drop}
@@ -51,19 +51,19 @@ use Rattle.iol_cache.proofs.Extents.StoreSteps.{sound_on}
 use Rattle.iol_cache.proofs.RangeReads.TakenBack.{NoneBegins, begins_at-put_in, none_beside, none_gaps}
 use Rattle.iol_cache.proofs.Extents.Steps.{covers_right, goes_cache, goes_covers, goes_less, goes_moved, goes_trans}
 
--- what holds of both results
+-- a fact that follows from both results
 pub either_way : {A E : Type 0} (P Q : Type 0) (F : A → Type 0) (r : Result A E) → IfOk r F → OnErr r Q
     → ((x : A) → F x → P) → (Q → P) → P
 either_way P Q F (Ok x) f e g h = g x f
 either_way P Q F (Err y) f e g h = h e
 
--- the same, where what an error leaves depends on it
+-- the same, if the fact after an error depends on the error
 pub either_reported : {A E P : Type 0} (F : A → Type 0) (Q : E → Type 0) (r : Result A E) → IfOk r F → IfErr r Q
     → ((x : A) → F x → P) → ((y : E) → Q y → P) → P
 either_reported F Q (Ok x) f e g h = g x f
 either_reported F Q (Err y) f e g h = h y e
 
--- what an error leaves that is want of memory
+-- a fact of an error that is `Memory`
 pub on_memory : {A : Type 0} (r : Result A Refusal) (P : Refusal → Type 0) → IsErrAnd r (λ y. y ≡ refusal.Memory)
     → P refusal.Memory → IfErr r P
 on_memory (Ok x) P is p = tt
@@ -103,7 +103,7 @@ faults_counted n old new (Err (refusal.NoRoom p)) h = h
 faults_counted n old new (Err (refusal.Fault f)) h = h.0
 faults_counted n old new (Err refusal.Memory) h = h
 
--- what an error leaves, that a fault comes of a range that was asked for, and want of room where room is lacking
+-- a fact of an error, if a Fault comes only from a request to the store, and NoRoom only without room
 pub reported_late : {A : Type 0} {U : Refusal → Type 0} (n : ℕ) (old new : Disk) (has lacks : Type 0)
     (r : Result A Refusal) (P : Refusal → Type 0) → AskCounts n old new r → ReportsRoom has lacks r
     → ((y : Refusal) → ((g : ℕ) → y ≡ refusal.Fault g → 0 < n) → ((p : ℕ) → y ≡ refusal.NoRoom p → lacks) → U y → P y)
@@ -120,7 +120,7 @@ reports_fault n old new r h =
 
 -- Room.
 
--- where room is lacking, a gap wants it
+-- if there is no room, there is a gap
 pub some_lacked : (s : Stored) (clean : List BufId) (p : ℕ) (gaps : List Span)
     → length (pages_of s p) < pinned_beside s clean p + gap_pages gaps → 0 < length gaps
 some_lacked s clean p [] lacks = absurd (omega (arith, lacks, at_most s clean (pages_of s p)))
@@ -168,7 +168,7 @@ reports_more has lacks more less (Err (refusal.NoRoom p)) g k h = k h
 reports_more has lacks more less (Err (refusal.Fault f)) g k h = g h
 reports_more has lacks more less (Err refusal.Memory) g k h = tt
 
--- Nothing changes.
+-- A step without a change.
 
 pub same_none : (c : Cached) → SameButRoom c c
 same_none c = record {
@@ -188,14 +188,14 @@ same_none c = record {
 pub places_none : (s : Stored) (p n : ℕ) → PlacesSome s s p n
 places_none s p n = record { count = 0; few = omega arith; pages = keeps_pages_same s s refl refl }
 
--- evictions leave gaps
+-- gaps are still gaps after evictions
 pub gaps_kept : (a b : Holding) (f : ℕ) (gs : List Span) → KeepsPlaces a.cache b.cache
     → All (IsGapSpan (extents_in a.cache.files f)) gs → All (IsGapSpan (extents_in b.cache.files f)) gs
 gaps_kept a b f gs keeps all =
     All-weaker (IsGapSpan (extents_in a.cache.files f)) (IsGapSpan (extents_in b.cache.files f))
     (λ g h. record { each = λ i l u. keeps.gaps f i (h.each i l u) }) gs all
 
--- Gaps that stand as clean extents.
+-- Filled gaps are clean extents.
 
 pub stand_made : (s t : Stored) (p : ℕ) (es : List Extent) (low high : ℕ) (gs : List Span) (made : List Extent)
     → AreInOrder low high gs → NoneBegins es low gs → AllZip (IsMade s t p) gs made
@@ -246,7 +246,7 @@ extents_filled f from to b c beside gs d xs there filled =
     ap (λ (l : List CachedFile). extents_in l f) filled.files
     ∙ ap (λ (y : CachedFile). y.extents.extents) (file_same b.cache.files f x n.0 n.1)
 
--- Some holds are released, and others stay.
+-- Some references are released, and others remain.
 pub goes_released : (d : Disk) (own gone more : List BufId) (s t : Stored) (c : Cached)
     → ((x : BufId) → tally x own ≡ tally x gone + tally x more) → IsSound s c → Covers s (held c.files ++ own)
     → Moves s t gone [] → SameLists s t → (AllReclaimed s → AllReclaimed t) → page_count t.arena ≡ page_count s.arena
@@ -281,13 +281,13 @@ goes_reserved d a b sound same moves lists reclaims pages =
     sound covers moves lists reclaims pages)
     (goes_cache d [] b.store a.cache b.cache same.files same.pools same.extents same.held)
 
--- The holds of what was shared are held still, beside others that came.
+-- The references of the shared slices (`pins`) remain, in addition to others (`more`).
 pub record Went (d : Disk) (a c : Holding) (pins more : List BufId) : Type 0 where
   pub own : List BufId
   pub split : (x : BufId) → tally x own ≡ tally x pins + tally x more
   pub goes : Goes d pins own a c
 
--- what a call holds of its result
+-- the references of a result
 abbrev pub given : {E : Type 0} → Result (List Slice) E → List BufId
 given (Ok xs) = bufs_of xs
 given (Err y) = []
@@ -390,7 +390,7 @@ module _ (d : Disk) {f from to : ℕ} {a b : Holding} {pins : List Slice} {gs : 
       (All-weaker (IsCleanSpan es) (IsCoveredSpan es) (λ g h. covered_span es g laid.apart h) gs
       (stand_filled filled)) (laid_readable (file_in c.cache.files f).pool es laid.laid))
 
--- After what was shared was released.
+-- After the shared slices were released.
 module _ (d : Disk) {f from to : ℕ} {a c : Holding} {pins : List Slice} {gs : List Span} {more : List BufId}
     (may : MayFill f from to gs pins a) (went : Went d a c (bufs_of pins) more) where
   covers_c : Covers c.store (held c.cache.files ++ went.own)
@@ -448,7 +448,7 @@ module _ (d : Disk) {f from to : ℕ} {a c : Holding} {pins : List Slice} {gs : 
 err_is : {A : Type 0} (x y : Refusal) → (let r : Result A Refusal = Err x in r) ≡ Err y → x ≡ y
 err_is x y e = cc
 
--- The whole, where there was room.
+-- The whole read, if there was room.
 pub pinned_filled : {d e : Disk} {f from to : ℕ} {a b c : Holding} {t : Stored} {pins : List Slice} {gs : List Span}
     {ok : Bool} (r : Result (List Slice) Refusal) → MayFill f from to gs pins a
     → MakesFree (file_in a.cache.files f).pool (gap_pages gs) a b ok → IsTrue ok → IsSound b.store b.cache

@@ -59,7 +59,7 @@ over_low low (x ∷ xs) i e a h = here (is_over x i) h (over_low (end_of x) xs i
   here true h ih = let same : x ≡ e = cc in subst (λ (y : Extent). low ≤ y.at) same a.0
   here false h ih = omega (arith, ih h, a.0)
 
--- and all its bytes lie under it
+-- and it is over all its bytes
 pub over_all : (low : ℕ) (es : List Extent) (at : ℕ) (e : Extent) → IsApart low es → extent_over es at ≡ Some e
     → (i : ℕ) → e.at ≤ i → i < end_of e → cover es i ≡ Some (cell_at e i)
 over_all low [] at e a h i lo hi = cc
@@ -106,7 +106,7 @@ over_readable {s} (x ∷ xs) i e h all =
     here true h both ih = let same : x ≡ e = cc in subst (λ (y : Extent). AllReadable s y.parts) same both.0
     here false h both ih = ih h both.1
 
--- a run of what is read one by one
+-- the elements at a range of indices, as a part of the list
 run_of : (ps : List Place) (d : Place) (f : ℕ → Place) (b a n : ℕ) → b ≤ a → (a - b) + n ≤ length ps
     → ((i : ℕ) → a ≤ i → i < a + n → f i ≡ get_or ps (i - b) d) → map f (range_with_len a n) ≡ take n (drop (a - b) ps)
 run_of ps d f b a zero le fits each = refl
@@ -223,7 +223,7 @@ shared_gone m n = record {
   tidy = λ h. n.tidy (m.tidy h);
 }
 
--- all was shared
+-- all slices were shared
 pub all_shared : {A E : Type 0} {s t : Stored} {xs : List Slice} {given : A → List Slice} (a : A)
     → Shares s t (bufs_of xs) (bufs_of (given a)) → SharesOrReleases {A = A} {E = E} xs given s t (Ok a)
 all_shared a m = record {
@@ -235,7 +235,7 @@ all_shared a m = record {
       reclaims_shares m;
 }
 
--- some was, and then all of it was released
+-- some slices were shared, and then all were released
 pub released_then : {B E : Type 0} {s t u : Stored} {xs : List Slice} {ys : List BufId} {more : B → List Slice} {e : E}
     → Shares s t (bufs_of xs) ys → Moves t u ys [] → SameLists t u → FreesOnly t u → (AllReclaimed t → AllReclaimed u)
     → SharesOrReleases {A = B} xs more s u (Err e)
@@ -249,13 +249,13 @@ released_then m gone lists frees reclaims =
       reclaims = λ all. reclaims (reclaims_shares m all);
     }
 
--- some was, and then no more
+-- some slices were shared, and then a step failed
 pub refused_then : {A B E : Type 0} {s t u : Stored} {xs ys : List Slice} {given : A → List Slice} {more : B
     → List Slice} {e : E} → Shares s t (bufs_of xs) (bufs_of ys) → SharesOrReleases {A = A} ys given t u (Err e)
     → SharesOrReleases {A = B} xs more s u (Err e)
 refused_then m h = released_then m h.gone h.lists h.frees h.reclaims
 
--- what is shared already is held beside what was held
+-- the shared slices are held in addition to the slices held before
 pub held_beside : {a b : Stored} {xs ys : List BufId} → Covers a ys → Shares a b [] xs → Covers b (xs ++ ys)
 held_beside {xs = xs} {ys = ys} c m =
     record { each = λ x. omega (arith, c.each x, m.counts.each x, tally_none x, tally-append x xs ys) }
@@ -264,7 +264,7 @@ pub readable_of : {s : Stored} (xs : List Slice) (ps : List Place) → places xs
     → AllReadable s xs
 readable_of {s} xs ps e all = record { each = All-same (IsThere s) _ _ e all }
 
--- what was shared so far, and the bytes of a range that lie under extents
+-- more bytes, which are under extents, may be added to those shared so far
 pub may_share : {s t : Stored} {es : List Extent} {so_far : List Slice} {from to n : ℕ} → AreHeld s es → CountsBelow s n
     → n ≤ 2 ^ 62 → Shares s t [] (bufs_of so_far) → AllReadable s so_far → from ≤ to → IsCovered es from to
     → byte_len so_far + (to - from) < 2 ^ 32 → MayShare t es so_far from to

@@ -99,7 +99,7 @@ meeting_cut a b c (x ∷ xs) h k =
           ))
     ]
 
--- how many slices are over gaps
+-- the number of slices over gaps
 abbrev over_gaps : List Extent → List Span → ℕ
 over_gaps es [] = 0
 over_gaps es (g ∷ gs) = length (slices_over es g.from g.to) + over_gaps es gs
@@ -138,7 +138,7 @@ read_long old new at to (g ∷ gs) =
       read_long old new g.to to gs,
     )
 
--- slices of the same buffers are as many
+-- slices of the same buffers have the same number
 pub same_count : (xs ys : List Slice) → bufs_of xs ≡ bufs_of ys → length xs ≡ length ys
 same_count xs ys h = sym (length-map xs (λ (x : Slice). x.hold.buf)) ∙ ap length h
     ∙ length-map ys (λ (x : Slice). x.hold.buf)

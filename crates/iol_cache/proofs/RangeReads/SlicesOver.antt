@@ -24,7 +24,7 @@ meeting-past from to (x ∷ xs) h =
     (le-ltb from (min to x.len) (omega (arith, len, h)))
     ∙ meeting-past (from - x.len) (to - x.len) xs (omega (arith, len, h))
 
--- ranges that go on to the last byte meet the same slices
+-- ranges that end at or after the last byte meet the same slices
 meeting-far : (from to end : ℕ) (xs : List Slice) → byte_len xs ≤ to → byte_len xs ≤ end
     → meeting from to xs ≡ meeting from end xs
 unfolding meeting
@@ -107,14 +107,14 @@ slices_over_none (x ∷ xs) at = ap (λ l. l ++ slices_over xs at at) (meeting-e
 
 -- Lists of slices that grow.
 
--- slices were added, the first of those that were left
+-- the first of the remaining slices were added
 pub parts_more : (old new part left rest : List Slice) (all : List BufId) → bufs_of new ≡ bufs_of old ++ bufs_of part
     → left ≡ part ++ rest → bufs_of old ++ bufs_of left ≡ all → bufs_of new ++ bufs_of rest ≡ all
 parts_more old new part left rest all more is before =
     ap (λ l. l ++ bufs_of rest) more ∙ append_assoc (bufs_of old) (bufs_of part) (bufs_of rest)
     ∙ ap (λ l. bufs_of old ++ l) (sym (ap bufs_of is ∙ bufs-append part rest)) ∙ before
 
--- nothing is left
+-- no slice is left to add
 pub parts_done : (xs left : List Slice) (all : List BufId) → left ≡ [] → bufs_of xs ++ bufs_of left ≡ all
     → bufs_of xs ≡ all
 parts_done xs left all none h = sym (append-nil (bufs_of xs)) ∙ ap (λ l. bufs_of xs ++ bufs_of l) (sym none) ∙ h

@@ -1,4 +1,4 @@
--- Extents put in and taken away again.
+-- Extents that are put in and removed again.
 use Rattle.std.proofs.Common.{◌≡◌, ℕ, zero, suc, ◌+◌, ◌-◌, ◌<◌, ◌≤◌, ◌==◌, nat_lt, Bool, true, false, cond, All, List}
 use Rattle.std.proofs.Common.{[], ◌∷◌, ◌++◌, length, take, drop, get_or, Option, Some, None, IsSome, refl, sym, ap, ◌∙◌}
 use Rattle.std.proofs.Common.{arith, subst}
@@ -33,7 +33,7 @@ eq_of m n h = grind (arith, nat_tests)
 ne_at : (m n : ℕ) → (m ≡ n → ⊥) → (m == n) ≡ false
 ne_at m n h = grind (arith, nat_tests)
 
--- what was put in begins there
+-- the extent that was put in begins at its place
 pub begins_at-put_in : (es : List Extent) (e : Extent) → begins_at es e.at ≡ None
     → begins_at (put_in es e) e.at ≡ Some e
 begins_at-put_in [] e none = ap (λ t. cond t (Some e) None) (same_at e.at)
@@ -46,7 +46,7 @@ begins_at-put_in (x ∷ xs) e none = here (nat_lt e.at x.at) (x.at == e.at) refl
     here true false is none ih = ap (λ t. cond t (Some e) (begins_at (x ∷ xs) e.at)) (same_at e.at)
     here false false is none ih = ap (λ t. cond t (Some x) (begins_at (put_in xs e) e.at)) is ∙ ih none
 
--- and nothing else begins since
+-- and at each other place the same extent begins as before
 pub begins_at-beside : (es : List Extent) (e : Extent) (at : ℕ) → (e.at ≡ at → ⊥)
     → begins_at (put_in es e) at ≡ begins_at es at
 begins_at-beside [] e at ne = ap (λ t. cond t (Some e) None) (ne_at e.at at ne)
@@ -82,7 +82,7 @@ begins_gap low (x ∷ xs) from to a g h =
         (g.each from (omega arith) h))
     here false is ih = ih
 
--- a gap beside what was added
+-- a gap after the extent that was added is still a gap
 pub gap_left : (es es' : List Extent) (e : Extent) (from to : ℕ) → IsGap es from to → Adds es e es' → end_of e ≤ from
     → IsGap es' from to
 gap_left es es' e from to g adds past =
@@ -101,7 +101,7 @@ unfolding all_put
 all_put-push es [] e = refl
 all_put-push es (x ∷ made) e = all_put-push (put_in es x) made e
 
--- At each span an extent was put in: nothing began there.
+-- No extent begins where these spans begin, which are in order from `low` on.
 abbrev pub NoneBegins : List Extent → (low : ℕ) → List Span → Type 0
 NoneBegins es low [] = Unit {0}
 NoneBegins es low (g ∷ gs) = (low ≤ g.from) × (begins_at es g.from ≡ None) × NoneBegins es (g.from + 1) gs
@@ -133,7 +133,7 @@ none_gaps es low high (g ∷ gs) apart order gaps = (
 abbrev pub Begin : Span → Extent → Type 0
 Begin g e = e.at ≡ g.from
 
--- the extents that were put in, taken away again
+-- the extents that were put in, removed again
 pub without_put : (es : List Extent) (low : ℕ) (gs : List Span) (made : List Extent) → NoneBegins es low gs
     → AllZip Begin gs made → without_spans (all_put es made) gs ≡ es
 unfolding all_put
@@ -163,7 +163,7 @@ begin_put es low (g ∷ gs) (e ∷ made) none zip =
     ∙ begins_at-put_in es e at in
     (begin_put (put_in es e) (g.from + 1) gs made beside zip.1, subst IsSome (sym is) refl)
 
--- what they gave back: the slices of all, the first extent's last
+-- the slices that were taken back have the references of the extents that were put in
 pub back_put : (es : List Extent) (low : ℕ) (gs : List Span) (made : List Extent) → NoneBegins es low gs
     → AllZip Begin gs made → (b : BufId)
     → tally b (bufs_of (parts_back (all_put es made) gs)) ≡ tally b (bufs_of (all_parts made))
@@ -209,7 +209,7 @@ back_readable s es low (g ∷ gs) (e ∷ made) none zip all =
     (back_readable s (put_in es e) (g.from + 1) gs made beside zip.1 (λ k d h. all (suc k) d (omega arith)))
     (subst (λ (o : Option Extent). AllReadable s (parts_in o)) (sym is) (all 0 e (omega arith)))
 
--- Taken away one after another, from the last.
+-- Extents are removed one after another, from the last.
 
 pub begin_drop : (es : List Extent) (gs : List Span) (k : ℕ) → AllBegin es gs → AllBegin es (drop k gs)
 begin_drop es gs zero h = h
@@ -249,7 +249,7 @@ pub readable_here : {s : Stored} (es : List Extent) (g : Span) (gs : List Span) 
     → AllReadable s (parts_in (begins_at (without_spans es gs) g.from))
 readable_here es g gs h = (readable_parts (parts_back es gs) (parts_in (begins_at (without_spans es gs) g.from)) h).1
 
--- the extent that is taken away next
+-- the extent that is removed next
 pub record IsNext (es xs : List Extent) (gs : List Span) (left : ℕ) (g : Span) : Type 0 where
   pub extent : Extent
   pub begins : begins_at xs g.from ≡ Some extent

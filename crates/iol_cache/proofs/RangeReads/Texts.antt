@@ -1,4 +1,4 @@
--- What is read of a file is its bytes.
+-- The bytes that a read returns are the bytes of the file.
 use Rattle.std.proofs.Common.{inl, inr, ◌≡◌, ℕ, zero, suc, ◌+◌, ◌-◌, ◌<◌, ◌≤◌, Bool, true, false, cond, List, [], ◌∷◌}
 use Rattle.std.proofs.Common.{◌++◌, length, map, get_or, min, Option, Some, None, IsSome, refl, sym, ap, ◌∙◌, arith}
 use Rattle.std.proofs.Common.{subst, length-append}
@@ -73,7 +73,7 @@ cover_of s p (x ∷ xs) i c all h = here (is_over x i) refl h (cover_of s p xs i
       (places_of p x.parts all.0.home (i - x.at) no_place (omega (arith, b.0, b.1)))
   here false is h ih = ih h
 
--- what lies over a byte of a file is the byte, labelled by the file's pool
+-- the value at the place over a byte is the file's byte, labelled by the file's pool
 cover_value : (s : Stored) (p : ℕ) (es : List Extent) (stored : List ℕ) (i : ℕ) → AllByRecursion (IsLaid s p) es
     → IsSome (cover es i) → byte_at s (place_over es i) ≡ (file_byte (byte_in s) stored es i, p)
 cover_value s p es stored i all some = pick (cover es i) refl some where
@@ -216,7 +216,7 @@ length-places_read old new at to (g ∷ gs) order =
       order.1,
     )
 
--- where there were gaps clean extents stand now
+-- the gaps are clean extents after the read
 gaps_stand : {f from to : ℕ} {pins xs : List Slice} {gaps : List Span} {disk : Disk} {old new : Holding}
     → CompletesRange f from to pins gaps disk old new xs → All (IsCleanSpan (extents_in new.cache.files f)) gaps
 gaps_stand {f = f} {new = new} (inl e) =

@@ -29,7 +29,7 @@ shared_covers m = record { each = λ b. omega (arith, m.counts.each b, tally_non
 pub still_covers : {s t : Stored} {xs ys : List BufId} → Covers s ys → Shares s t [] xs → Covers t ys
 still_covers c m = record { each = λ b. omega (arith, c.each b, m.counts.each b, tally_none b) }
 
--- a part of what lies beside the gaps may be added to what was shared so far
+-- a part of the shared bytes outside the gaps may be added to the slices of the range so far
 pub may_add_part : {s t : Stored} {from to : ℕ} {gaps : List Span} (xs ys : List Slice) (used next : ℕ)
     → LieBeside s from to gaps ys → Shares s t [] (bufs_of xs) → AllReadable s xs → CountsBelow s (2 ^ 61) → used ≤ next
     → next ≤ byte_len ys → byte_len xs + (next - used) < 2 ^ 32 → MayAddPart t xs ys used next
@@ -55,7 +55,7 @@ length-places_beside es at to (g ∷ gs) =
       length-places_beside es g.to to gs,
     )
 
--- what lies beside the gaps, woven with what lies in them
+-- the shared places outside the gaps, woven with those of the gaps, are the places of the read
 pub woven-beside : (old new : List Extent) (at to : ℕ) (gs : List Span)
     → woven (places_beside old at to gs) new at to gs ≡ places_read old new at to gs
 woven-beside old new at to [] = take_all (places_over old at to) (to - at) (length-places_over old at to)
@@ -72,7 +72,7 @@ woven-beside old new at to (g ∷ gs) =
     ∙ ap (λ l. here ++ places_over new g.from g.to ++ woven l new g.to to gs) later
     ∙ ap (λ l. here ++ places_over new g.from g.to ++ l) (woven-beside old new g.to to gs)
 
--- with a part of what can be read
+-- slices with a part of other readable slices are readable
 pub readable_more : {s : Stored} (more xs ys : List Slice) (from to : ℕ)
     → places more ≡ places xs ++ slice_range (places ys) from to → AllReadable s xs → AllReadable s ys
     → AllReadable s more
@@ -80,7 +80,7 @@ readable_more {s = s} more xs ys from to e h k =
     readable_places more xs (slice_range (places ys) from to) e h
     (All-take (IsThere s) (to - from) (drop from (places ys)) (All-drop (IsThere s) from (places ys) k.each))
 
--- where the bytes lie that were shared up to a gap, and then up to the next
+-- the places shared up to a gap, and then up to the next one
 pub beside_more : (es : List Extent) (so_far more : List Place) (at to : ℕ) {gs rest : List Span} {g : Span}
     {all : List Place} → gs ≡ g ∷ rest → more ≡ so_far ++ places_over es at g.from
     → so_far ++ places_beside es at to gs ≡ all → more ++ places_beside es g.to to rest ≡ all

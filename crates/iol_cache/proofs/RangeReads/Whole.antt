@@ -1,4 +1,4 @@
--- What follows of a file that was read.
+-- Consequences of a read of a file.
 use Rattle.std.proofs.Common.{◌≡◌, ◌∙◌, ℕ, ◌+◌, ◌-◌, ◌≤◌, min, true, List, [], length, Result, IfErr, IfOk, OnErr, sym}
 use Rattle.std.proofs.Common.{ap, arith, subst}
 use Rattle.std.proofs.lemmas.Result.{IfOk-weaker}
@@ -53,7 +53,7 @@ still_backed d e a c goes honest slots backed =
       mirrors = subst (λ l. Mirrors c.store l c.cache.files) (sym same) (goes.mirrors backed.honest backed.mirrors);
     }
 
--- a store that was only read is under the cache as before
+-- a store that was only read still backs the cache (`IsBacked`)
 pub file_backed : (d e : Disk) (a c : Holding) (r : Result (List Slice) Refusal)
     → IfOk r (λ xs. Goes d [] (bufs_of xs) a c) → OnErr r (Goes d [] [] a c) → e.honest ≡ d.honest
     → IfHonest d (e.slots ≡ d.slots) → IsBacked d a → IsBacked e c
@@ -61,7 +61,7 @@ file_backed d e a c r goes gone honest slots backed =
     either_way (IsBacked e c) (Goes d [] [] a c) (λ xs. Goes d [] (bufs_of xs) a c) r goes gone
     (λ xs h. still_backed d e a c h honest slots backed) (λ h. still_backed d e a c h honest slots backed)
 
--- What follows of a file that was read, or was not.
+-- Consequences of a read of a file, if it succeeds.
 
 module _ (f at n : ℕ) (d : Disk) (a c : Holding) (r : Result (List Slice) Refusal)
     (reads : IfOk r (ReadsFile f at n d a c)) where

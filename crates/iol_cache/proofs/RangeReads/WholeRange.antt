@@ -50,7 +50,7 @@ made_len s t p low high (g ∷ gs) (e ∷ made) order zip =
       order.1,
     )
 
--- each of the spans is covered, where each byte in them is
+-- a span is covered if each of its bytes is
 each_covered : (es : List Extent) (gs : List Span) → ((i : ℕ) → LiesIn i gs → IsSome (cover es i))
     → All (IsCoveredSpan es) gs
 each_covered es [] h = All-nil (IsCoveredSpan es)
@@ -58,7 +58,7 @@ each_covered es (g ∷ gs) h =
     All-cons (IsCoveredSpan es) g gs (record { each = λ i l u. h i (inl (l, u)) })
     (each_covered es gs (λ i lies. h i (inr lies)))
 
--- what was put in is held beside what was there
+-- the new extents are held in addition to the old ones
 pub tally-all_put : (b : BufId) (es made : List Extent)
     → tally b (bufs_of (all_parts (all_put es made))) ≡ tally b (bufs_of (all_parts es))
     + tally b (bufs_of (all_parts made))

@@ -51,7 +51,7 @@ dirty_some low (x ∷ xs) e apart is = here x.dirty is (λ h. dirty_some (end_of
     here true h ih = let same : x ≡ e = cc in omega (arith, apart.1, ap (λ (y : Extent). byte_len y.parts) same)
     here false h ih = ih h
 
--- It becomes clean.
+-- The extent becomes clean.
 
 module _ (at : ℕ) (e : Extent) where
   pub cleaned_put : (low : ℕ) (es : List Extent) → IsApart low es → begins_at es at ≡ Some e
@@ -88,7 +88,7 @@ module _ (at : ℕ) (e : Extent) where
           ap (λ b. cond b (as_clean e ∷ x ∷ without_at xs at) (x ∷ put_in (without_at xs at) (as_clean e)))
           (not_before e.at x.at (omega (arith, r.0, apart.1))) ∙ ap (λ l. x ∷ l) (ih h)
 
--- what is told of each extent by itself, but for whether it is dirty
+-- a function of the extents that does not depend on `dirty` is unchanged
 cleaned-same : {A : Type 0} (g : List Extent → A)
     → ((x : Extent) (xs ys : List Extent) → g xs ≡ g ys → g (x ∷ xs) ≡ g (x ∷ ys))
     → ((x : Extent) (xs : List Extent) → g (as_clean x ∷ xs) ≡ g (x ∷ xs)) → (es : List Extent) (at : ℕ)
@@ -128,7 +128,7 @@ count-cleaned es at e apart begins dirty =
       ap dirty_count (cleaned_put at e 0 es apart begins),
     )
 
--- Its bytes are what it had.
+-- Its bytes are unchanged.
 
 pub read-cleaned : (g : Place → ℕ) (n : ℕ) (es : List Extent) (at i : ℕ)
     → read_or g n (cover (cleaned_at es at) i) ≡ read_or g n (cover es i)
@@ -178,7 +178,7 @@ stored-cleaned s stored (x ∷ xs) at i e begins own h =
         subst (λ c. IsStored s stored i (cond c (Some (cell_at x i)) (cover (cleaned_at xs at) i))) (sym is)
         (ih bs (subst (λ c. IsStored s stored i (cond c (Some (cell_at x i)) (cover xs i))) is h))
 
--- The store goes on under a dirty extent.
+-- The backing store is written under a dirty extent.
 
 pub bytes_alike : (g : Place → ℕ) (stored new : List ℕ) (es fs : List Extent)
     → ((i : ℕ) → file_byte g new fs i ≡ file_byte g stored es i) → file_len new fs ≡ file_len stored es
@@ -226,7 +226,7 @@ module _ (stored new : List ℕ) (es : List Extent) (at : ℕ) (e : Extent) (apa
           (λ clean. absurd (not_true (sym clean ∙ dirty)))
       pick false is = keep (same_out i is) (cover es i) h
 
--- One more of the first ones.
+-- One more of the first dirty extents is cleaned.
 
 pub apart-first : (n low : ℕ) (es : List Extent) → IsApart low es → IsApart low (first_cleaned n es)
 apart-first zero low es apart = apart
@@ -239,7 +239,7 @@ apart-first (suc n) low (x ∷ xs) apart =
     here true one more = (apart.0, apart.1, one)
     here false one more = (apart.0, apart.1, more)
 
--- one that stands before is left
+-- an extent that begins before the place is not cleaned
 skip : (x y : Extent) (ys : List Extent) (at : ℕ) → x.at ≡ y.at → y.at < at
     → cleaned_at (x ∷ ys) at ≡ x ∷ cleaned_at ys at
 skip x y ys at same less =

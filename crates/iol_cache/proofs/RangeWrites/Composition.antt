@@ -86,7 +86,7 @@ own_run p (y ∷ ys) rest all =
     after_own 0 p y (ys ++ rest) (all 0 y (omega arith))
     ∙ omega (arith, pages_for-zero, own_run p ys rest (λ k d h. all (suc k) d (omega arith)))
 
--- a run of others needs the pages of its bytes, where none of others follows
+-- a run of other pools' slices needs the pages of its bytes, if a slice of the pool or no slice follows
 pub other_run : (k p : ℕ) (ys rest : List Slice) → All (λ (x : Slice). (x.hold.pool == p) ≡ false) ys
     → ((d : Slice) → 0 < length rest → ((get_or rest 0 d).hold.pool == p) ≡ true)
     → pages_after k p (ys ++ rest) ≡ pages_for (k + byte_len ys) + copied_pages p rest
@@ -151,7 +151,7 @@ pub other_places : (p : ℕ) (xs : List Slice) → All (λ (x : Slice). (x.hold.
     → All (λ (l : Place). l.pool ≡ p → ⊥) (places xs)
 other_places p xs all = pools_of (λ n. n ≡ p → ⊥) xs (λ k d h. ne_of (get_or xs k d).hold.pool p (all k d h))
 
--- where all bytes lie in the pool they are labelled so
+-- bytes at places of one pool have that pool's label
 pub own_text : (s : Stored) (p : ℕ) (ls : List Place) → All (λ (l : Place). l.pool ≡ p) ls
     → map (byte_at s) ls ≡ text.labelled p (text.bytes_of (map (byte_at s) ls))
 own_text s p [] all = refl
@@ -245,7 +245,7 @@ run_places xs i n =
     ∙ drop_at (places a) (places b ++ places c) (byte_len a) refl)
     ∙ take_at (places b) (places c) (byte_len b) refl
 
--- the run, and what is left
+-- the run, and the remaining slices
 pub run_splits : (xs : List Slice) (i n : ℕ) → drop i xs ≡ take n (drop i xs) ++ drop (i + n) xs
 run_splits xs i n = sym (take-append-drop n (drop i xs)) ∙ ap (λ l. take n (drop i xs) ++ l) (drop-drop n i xs)
 
@@ -446,12 +446,12 @@ run_all {s} {t} {p} {xs} {out} left none m =
     let n : m.count ≡ copied_pages p xs = omega (arith, m.pages, ap (copied_pages p) none, pages_for-zero) in
     subst (λ k. Composes s t p k xs out) n (subst (λ (l : List Slice). Composes s t p m.count l out) is m.composes)
 
--- as many bytes
+-- the composed bytes have the length of the source
 pub composed_long : {s t : Stored} {p k : ℕ} {xs out : List Slice} → Composes s t p k xs out
     → byte_len out ≡ byte_len xs
 composed_long m = m.own.long
 
--- Runs given up.
+-- Runs that are released.
 
 pub gone_both : {s t u v w : Stored} {xs ys : List BufId} → Moves s t [] xs → Moves t u [] ys → Moves u v xs []
     → Moves v w ys [] → Moves s w [] []

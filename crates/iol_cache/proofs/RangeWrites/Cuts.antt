@@ -1,4 +1,4 @@
--- What a write leaves: the extents that it does not meet, the parts on both sides, and the new one.
+-- The extents after a write: those that it does not meet, the parts on both sides of its range, and the new one.
 use Rattle.std.proofs.Common.{inl, inr, ◌≡◌, ◌⊎◌, ℕ, ◌+◌, ◌-◌, ◌<◌, ◌≤◌, Bool, true, false, cond, List, [], ◌∷◌, length}
 use Rattle.std.proofs.Common.{get_or, Option, Some, None, MatchOption, refl, sym, ap, ◌∙◌, arith, subst}
 use Rattle.std.proofs.lemmas.Bool.{cases_lt}
@@ -120,7 +120,7 @@ no_edge x i out = elim (cases_lt 0 (byte_len x.parts)) [
       elim (cases_lt i x.at) [ inl l ↦ over_not x i (inl l) | inr l ↦ over_not x i (inr (omega (arith, none, l))) ]
 ]
 
--- Where they are put.
+-- The gaps into which they are put.
 
 pub left_gap : (es : List Extent) (from to : ℕ) (x : Extent) → IsApart 0 es → from < to → CutsLeft es from x
     → 0 < byte_len x.parts → IsGap (unmet es from to) x.at (end_of x)
@@ -156,7 +156,7 @@ right_gap es es2 from to l x apart order cl c some adds =
           (met r.extent from to (omega (arith, has.0, order)) (omega (arith, has.1, order)));
     }
 
--- nothing is left in the range
+-- no extent is over the range
 range_clear : (es : List Extent) (from to i : ℕ) → IsApart 0 es → from ≤ i → i < to → cover (unmet es from to) i ≡ None
 range_clear es from to i apart lo hi = elim (found (extent_over es i)) [
   | inl none ↦ unmet_free es from to i (nothing_over es i none)
@@ -175,7 +175,7 @@ new_gap es es2 es3 from to l x apart order cl cr al ar = record {
       ∙ range_clear es from to i apart lo hi;
 }
 
--- What lies there then.
+-- The bytes under the extents after the cut.
 
 cell_same : (x e : Extent) (i : ℕ) → x.dirty ≡ e.dirty
     → get_or (places x.parts) (i - x.at) no_place ≡ get_or (places e.parts) (i - e.at) no_place
@@ -196,7 +196,7 @@ right_cell x e to i a lo hi = cell_same x e i a.dirty
     ∙ ap (λ n. get_or (places e.parts) n no_place) (let q : (to - e.at) + (i - x.at) ≡ i - e.at =
     omega (arith, a.begins, lo, hi) in q))
 
--- outside of the range the same
+-- outside the range, the cells are unchanged
 outside : (es es2 es3 : List Extent) (from to i : ℕ) (l x : Extent) → IsApart 0 es → from < to → CutsLeft es from l
     → CutsRight es to x → Adds (unmet es from to) l es2 → Adds es2 x es3 → (i < from) ⊎ (to ≤ i)
     → cover es3 i ≡ cover es i
@@ -304,7 +304,7 @@ outside es es2 es3 from to i l x apart order cl cr al ar (inr after) =
     some_same : {a b : Extent} → Some a ≡ Some b → a ≡ b
     some_same h = cc
 
--- with the new extent: over the range lies what it has, and all else lies where it lay
+-- after the write, the new extent is over the range, and the cells outside it are unchanged
 pub replaced : (es es2 es3 es4 : List Extent) (from to : ℕ) (l x new : Extent) → IsApart 0 es → from < to
     → CutsLeft es from l → CutsRight es to x → new.at ≡ from → end_of new ≡ to → Adds (unmet es from to) l es2
     → Adds es2 x es3 → Adds es3 new es4 → Adds es new es4

@@ -1,4 +1,4 @@
--- The first dirty extent, which becomes clean where it stands.
+-- The first dirty extent, which becomes clean in its place.
 use Rattle.std.proofs.Common.{◌≡◌, ◌∙◌, ℕ, ◌<◌, Bool, true, false, cond, eqb, List, [], ◌∷◌, Some, IsSome, refl, sym}
 use Rattle.std.proofs.Common.{ap, arith, subst}
 use Rattle.std.specs.Prelude.{not, ◌&&◌}
@@ -35,7 +35,7 @@ none_above low (x ∷ xs) at a h =
     apart : (m n : ℕ) → n < m → eqb m n ≡ false
     apart m n h = grind (arith, nat_tests)
 
--- no clean one begins where it does
+-- no clean extent begins at the place of the first dirty one
 pub none_clean : (low : ℕ) (es : List Extent) (e : Extent) → IsApart low es → dirty_in es ≡ Some e
     → clean_at e.at es ≡ 0
 none_clean low [] e a h = cc

@@ -1,4 +1,4 @@
--- A range of a file that is replaced: what goes, and what comes in, part by part.
+-- The replacement of a range of a file, part by part: extents are removed, and others are put in.
 use Rattle.std.proofs.Common.{◌≡◌, ◌∙◌, ℕ, ◌+◌, ◌<◌, ◌≤◌, ◌^◌, List, [], length, sym, ap, arith, subst}
 use Rattle.std.specs.Prelude.{slice_index}
 use Rattle.iol_core.specs.declared.numbers.BufId.{BufId}
@@ -26,7 +26,7 @@ use Rattle.iol_cache.proofs.RangeWrites.Cuts.{left_gap, left_of, new_gap, replac
 use Rattle.iol_cache.proofs.RangeWrites.Replacement.{covers_moved, marked_after, moves_on, page-three, reindexes_then}
 use Rattle.iol_cache.proofs.RangeWrites.Replacement.{some-clean, some-parts, tally-four, unmet-clean}
 
--- What goes.
+-- Extents are removed.
 
 indexed_after : {f : ℕ} {es fs : List Extent} {r t : Ranking} {marks new : List ℕ} → Reindexes f es fs r t marks new
     → IsApart 0 fs → IsIndexed f es r marks → IsIndexed f fs t new
@@ -65,9 +65,9 @@ gone_on m n counts = record {
   left = n.left;
 }
 
--- What comes in: the part on the left, the one on the right, the new bytes.
+-- Extents are put in: the part on the left, the part on the right, the new bytes.
 
--- with a part come no more marks than it has slices
+-- a part adds no more marks than it has slices
 marks_more : {f : ℕ} {e : Extent} {es fs : ExtentMap} {r q : Ranking} {marks new : List ℕ}
     → PutsIn f e es fs r q marks new → (p : ℕ) → slice_index new p ≤ slice_index marks p + at_page p (bufs_of e.parts)
 marks_more {e = e} {es = es} puts p =

@@ -1,4 +1,4 @@
--- Extents one of which was put over the others, and the bytes of the file then.
+-- Extents of which one was put over the others, and the bytes of the file after that.
 use Rattle.std.proofs.Common.{inl, inr, ◌≡◌, ◌∙◌, ℕ, ◌+◌, ◌-◌, ◌<◌, ◌≤◌, ◌⊎◌, Bool, true, false, cond, List, [], ◌∷◌}
 use Rattle.std.proofs.Common.{◌++◌, length, map, take, drop, get_or, max, Option, Some, None, refl, sym, ap, arith}
 use Rattle.std.specs.List.{range_with_len}

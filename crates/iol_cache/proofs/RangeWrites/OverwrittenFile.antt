@@ -256,7 +256,7 @@ module _ (old new : Holding) (f at : ℕ) (source : List Slice) (sound : IsSound
     };
   }
 
-  -- Where the bytes lie.
+  -- The places of the written bytes.
 
   places_are : places_over es' at (at + n) ≡ places e.parts
   places_are =

@@ -1,4 +1,4 @@
--- What a write puts in place of a range, and the store over which it lies.
+-- The extents that a write puts in place of a range, and the store that has their bytes.
 use Rattle.std.proofs.Common.{inl, inr, ◌≡◌, ◌∙◌, ℕ, ◌+◌, ◌-◌, ◌<◌, ◌≤◌, ◌^◌, List, [], ◌++◌, map, Option, Some, None}
 use Rattle.std.proofs.Common.{refl, sym, ap, arith, subst}
 use Rattle.std.specs.Prelude.{MatchOption}
@@ -55,7 +55,7 @@ right_len es to x pos cut begins short small = elim (cases_lt 0 (byte_len x.part
   | inr none ↦ omega (arith, none, begins, small)
 ]
 
--- The store over which they lie.
+-- The store that has their bytes.
 
 module _ {s t : Stored} {p : ℕ} {es : List Extent} {at : ℕ} {source : List Slice} {left right e : Extent}
     (a : Prepares s t p es at source left right e) where
@@ -149,7 +149,7 @@ module _ {s t : Stored} {p : ℕ} {es : List Extent} {at : ℕ} {source : List S
     home = pooled_text a.mid p e.parts (text.bytes_of (text_of s source)) a.composes.is;
   }
 
--- it may be put in place
+-- the prepared extents may be put in place of the range
 pub prepared_may : (h : Holding) (t : Stored) (f at : ℕ) (source : List Slice) (put : Replacement)
     → MayOverwrite f at source h
     → Prepares h.store t (file_in h.cache.files f).pool (extents_in h.cache.files f) at source put.left put.right
@@ -181,7 +181,7 @@ prepared_may h t f at source put over a =
       places = over.places;
     }
 
--- Parts that are given up.
+-- Prepared parts that are released.
 
 pub composed_few : {s t : Stored} (out : List Slice) → Moves s t [] (bufs_of out) → byte_len out ≤ MAX_FILE_BYTES
     → CountsBelow s (2 ^ 61) → CountsBelow t (2 ^ 61 + 2 ^ 32)

@@ -107,7 +107,7 @@ over_end (x ∷ xs) i e h = here (is_over x i) h (over_end xs i e)
     here true h ih = let same : x ≡ e = cc in omega (arith, ap end_of same)
     here false h ih = omega (arith, ih h)
 
--- The parts lie where their extents do.
+-- The slices of the cut parts are of the file's pool.
 
 slices_in_pool : (p : ℕ) (xs : List Slice) → All (λ (l : Place). l.pool ≡ p) (places xs)
     → All (λ (x : Slice). x.hold.pool ≡ p) xs
@@ -165,7 +165,7 @@ right_laid s p es to x all pos cut some =
           (All-drop home (to - e.at) (places e.parts) (pools_of (λ n. n ≡ p) e.parts laid.home)));
     }
 
--- What replacing the range of a file needs.
+-- The conditions of the replacement of a range.
 
 pub left_len : (es : List Extent) (from : ℕ) (x : Extent) → CutsLeft es from x → byte_len x.parts ≤ from
 left_len es from x cut = elim (cases_lt 0 (byte_len x.parts)) [
@@ -252,7 +252,7 @@ may_replace h f range put may =
       places = may.places;
     }
 
--- What holds after.
+-- The cache after the replacement.
 
 module _ (old new : Holding) (f : ℕ) (range : Span) (put : Replacement) (sound : IsSound old.store old.cache)
     (there : is_numbered old.cache.files f ≡ true) (puts : PutsOver f range put old new)

@@ -113,7 +113,7 @@ none_dirty at e d = ap (λ b. cond {A = ℕ} (eqb e.at at && not b) 1 0) d ∙ o
     off true = refl
     off false = refl
 
--- A dirty extent goes, or comes in.
+-- A dirty extent is removed or put in.
 
 pub dirty_goes : (f : ℕ) (es : List Extent) (at : ℕ) (e : Extent) (r : Ranking) (marks : List ℕ)
     → begins_at es at ≡ Some e → e.dirty ≡ true → 0 < r.kept
@@ -154,7 +154,7 @@ dirty_comes f es e r marks dirty = record {
   long = refl;
 }
 
--- A clean extent goes, and its entry and marks, or comes in.
+-- A clean extent is removed with its entry and marks, or put in.
 
 same_one : (f at b : ℕ) (e : Extent) (v : Entry) → e.at ≡ at → e.dirty ≡ false → v.file ≡ f → v.at ≡ at
     → begins_clean b e ≡ entry_one f b v
@@ -279,7 +279,7 @@ marks_of marks es at e begins clean h =
           );
     }
 
--- The extent that goes.
+-- The extent that is removed.
 
 pub moves_part : {s t : Stored} (es : List Extent) (at : ℕ) (e : Extent) → begins_at es at ≡ Some e
     → Moves s t (bufs_of e.parts) [] → Moves s t (bufs_of (all_parts es)) (bufs_of (all_parts (without_at es at)))
@@ -350,7 +350,7 @@ pub counts_part : {s t : Stored} (es : List Extent) (at : ℕ) (e : Extent) → 
 counts_part es at e begins c =
     record { each = λ b. omega (arith, c.each b, tally_none b, parts-less (tally b) (additive_tally b) es at e begins) }
 
--- none begins where one is put
+-- no extent begins at the place of the new one
 clean_none : (es : List Extent) (at : ℕ) → begins_at es at ≡ None → clean_at at es ≡ 0
 clean_none [] at h = refl
 clean_none (x ∷ xs) at h = sum_by-cons (begins_clean at) x xs ∙ here (eqb x.at at) x.dirty h (clean_none xs at)
@@ -365,7 +365,7 @@ pub absent_gap : (f : ℕ) (es : List Extent) (at to : ℕ) (r : Ranking) → Is
 absent_gap f es at to r apart gap some ranked =
     entry_absent r.entries f at (ranked.each at ∙ clean_none es at (begins_gap 0 es at to apart gap some))
 
--- Sums over what is left, and over what comes in.
+-- Sums over the remaining extents, and over the new ones.
 
 pub unmet-clean : (h : List BufId → ℕ) → IsAdditive h → (es : List Extent) (from to : ℕ)
     → h (bufs_of (clean_in (unmet es from to))) ≤ h (bufs_of (clean_in es))

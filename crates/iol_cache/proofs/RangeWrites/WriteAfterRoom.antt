@@ -35,7 +35,7 @@ goes_room d own p n old new m =
     goes_trans d own own own old mid new (goes_cache d own old.store old.cache m.reserved s.files s.pools s.extents
     s.held) (goes_less d own mid new m.gives_up)
 
--- A step by which no file changes.
+-- A step in which no file changes.
 pub record KeepsAll (f : ℕ) (old new : Holding) : Type 0 where
   pub files : KeepsFiles old new
   pub mirrors : KeepsMirrors old new
@@ -79,7 +79,7 @@ goes_refused d p n old mid t m sound none lists reclaims pages =
     goes_trans d [] [] [] old mid _ (goes_room d [] p n old mid m)
     (goes_store d [] [] mid.store t mid.cache sound none covers lists reclaims pages)
 
--- What the write needs of the room that was made.
+-- The conditions of the write, after room was made.
 
 pub room_numbered : (p n f : ℕ) (old mid : Holding) → MakesRoom p n old mid → is_numbered old.cache.files f ≡ true
     → is_numbered mid.cache.files f ≡ true

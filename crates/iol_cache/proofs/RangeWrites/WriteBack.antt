@@ -35,7 +35,7 @@ use Rattle.iol_cache.proofs.Extents.FileEntries.{file_other, file_same, length-w
 use Rattle.iol_cache.proofs.Evictions.Files.{bytes_same}
 use Rattle.iol_cache.proofs.RangeWrites.StoredBytes.{stores_tears}
 
--- the byte that lies at the k-th place
+-- the byte at the k-th place
 byte_there : (s : Stored) (xs : List Slice) (k : ℕ) → k < byte_len xs
     → byte_in s (get_or (places xs) k no_place) ≡ get_or (text.bytes_of (text_of s xs)) k 0
 byte_there s xs k h =
@@ -145,7 +145,7 @@ module _ (s : Stored) (f : ℕ) (old new : Cached) (d e : Disk) (sound : IsSound
       (laid-cleaned s p xs x.at (sound.files f).laid))
       (omega (arith, ap last_end w.is, end-cleaned xs x.at, (sound.files f).short))
 
-  -- What is written.
+  -- The bytes that are written.
 
   abbrev ws : List ℕ
   ws = text.bytes_of (text_of s x.parts)
@@ -248,7 +248,7 @@ syncs_more s f old mid new d m e sound now there a w =
       mirrors = λ h all. clean_mirrors s f mid new m e now there w (a.honest ∙ h) (a.mirrors h all);
     }
 
--- Nothing becomes clean where the store fails, and all values stay.
+-- If the store fails, no extent becomes clean, and every file keeps its bytes.
 
 pub fail_bytes : (s : Stored) (f : ℕ) (old new : Cached) (d e : Disk) → IsSound s old → Fails f old new d e
     → KeepsBytes s old new d e

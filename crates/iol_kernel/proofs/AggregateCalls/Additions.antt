@@ -1,5 +1,5 @@
--- A domain gets an aggregate of bytes that lie there already: for the machine, for the layout, and that all stays
--- sound.
+-- A domain gets an aggregate of bytes that are in memory already: the step of the machine and of the layout, and the
+-- invariant.
 use Rattle.std.proofs.Common.{[], refl, ◌≡◌, ℕ, ◌-◌, ◌<◌, ◌≤◌, List, ◌++◌, length, length-append, take, drop}
 use Rattle.std.proofs.Common.{slice_range, ap, ◌∙◌, sym, arith, true}
 use Rattle.std.proofs.lemmas.List.Elements.{All-append, All-take, All-drop, All-same}
@@ -54,7 +54,7 @@ module _ (h : KernelState) (t : Stored) (ds : List (Domain (List Slice))) (d : �
       (all_reclaimed_same h.store t adds.shares.arena adds.shares.pools sound.reclaimed) adds.shares.pools
       (ap page_count adds.shares.arena) adds.added
 
-  -- a call that adds these bytes and does nothing else is answered
+  -- a call that adds these bytes, and has no other effect, is answered
   added_answers : (m : State → Meaning ℕ) (n : ℕ) → ((f : Reading) → n ≡ (m (read_of f h)).answer)
       → ((f : Reading) → aggs.with_agg (read_of f h) d (read f adds.slices) ≡ (m (read_of f h)).after)
       → IsSound (record h { store = t; domains = ds }) → Answers m h n (record h { store = t; domains = ds })
@@ -96,7 +96,7 @@ module _ (h : KernelState) (t : Stored) (ds : List (Domain (List Slice))) (d a f
       (read_cut f.at adds.slices (slices_in h.domains d a) from to adds.is_there
       ∙ ap (λ (u : Text). slice_range u from to) (sym (text-read_of f h d a)))) cut-sound
 
--- all of it, once more
+-- a copy of an aggregate is a cut of all its bytes
 pub dup_answers : (h k : KernelState) (d a len n : ℕ) → ((f : Reading) → len ≡ length (machine.text (read_of f h) d a))
     → Answers (λ s. aggs.agg_cut s d a 0 len) h n k → Answers (λ s. aggs.agg_dup s d a) h n k
 dup_answers h k d a len n all cut =

@@ -1,4 +1,4 @@
--- All that a domain has is given up.
+-- All that a domain has is released.
 use Rattle.std.proofs.Common.{◌≡◌, ℕ, ◌+◌, ◌≤◌, List, [], ◌∷◌, ◌++◌, length, ap, ◌∙◌, refl, sym, subst, arith, true}
 use Rattle.std.specs.List.{AllByRecursion}
 use Rattle.std.specs.Prelude.{sum_by}
@@ -76,7 +76,7 @@ each-last : {A : Type 0} (P : A → Type 0) (xs : List A) (x : A) → AllByRecur
 each-last P [] x e = e.0
 each-last P (y ∷ xs) x e = each-last P xs x e.1
 
--- what can be read of each aggregate
+-- all aggregates of a domain can be read
 abbrev pub AreReadable : Stored → List (ℕ × List Slice) → Type 0
 AreReadable s es = AllByRecursion (λ e. AllReadable s e.1) es
 

@@ -1,4 +1,4 @@
--- What is put under a number in place of another, and taken away again.
+-- An aggregate that replaces another under its number, and is removed again.
 use Rattle.std.proofs.Common.{◌≡◌, ◌≢◌, ℕ, suc, ◌+◌, List, [], ◌∷◌, ap, ◌∙◌, refl, sym, arith, Some, None, inl, inr}
 use Rattle.std.proofs.Common.{true}
 use Rattle.std.proofs.lemmas.Bool.{cases_eq}
@@ -52,7 +52,7 @@ without-exchanged {A} (e ∷ es) n x = elim (cases_eq e.0 n) [
       ap (λ (l : List (ℕ × A)). without l n) (exchanged-later e es n x k) ∙ grind (arith, nat_tests, k, r))
 ]
 
--- what was there comes back
+-- a second exchange restores the first aggregate
 pub exchanged-back : {A : Type 0} (es : List (ℕ × A)) (n : ℕ) (x y : A) → Some y ≡ lookup es n
     → exchanged (exchanged es n x) n y ≡ es
 exchanged-back [] n x y is = absurd cc
@@ -71,7 +71,7 @@ exchanged-back {A} (e ∷ es) n x y is = elim (cases_eq e.0 n) [
     entry : (e : ℕ × A) (y : A) → n ≡ e.0 → y ≡ e.1 → ◌≡◌ {A = List (ℕ × A)} ((n, y) ∷ es) (e ∷ es)
     entry e y k l = λ i. (k i, l i) ∷ es
 
--- two are taken away in any order
+-- two entries are removed in either order
 pub without-twice : {A : Type 0} (es : List (ℕ × A)) (m n : ℕ) → without (without es m) n ≡ without (without es n) m
 without-twice [] m n = refl
 without-twice (e ∷ es) m n = let r = without-twice es m n in elim (cases_eq e.0 m) [
@@ -79,7 +79,7 @@ without-twice (e ∷ es) m n = let r = without-twice es m n in elim (cases_eq e.
   | inr k ↦ elim (cases_eq e.0 n) [ inl l ↦ grind (arith, nat_tests, k, l) | inr l ↦ grind (arith, nat_tests, k, l, r) ]
 ]
 
--- Of a table: a domain that changed already changes once more.
+-- In a table: a domain that changed changes again.
 pub changed_again : (F : Domain (List Slice) → Domain (List Slice)) (ds ms rs : Domains) (d : ℕ)
     (x : Domain (List Slice)) → (domain_in ds d).live ≡ true → ms ≡ with_domain_in ds d x
     → rs ≡ with_domain_in ms d (F (domain_in ms d)) → rs ≡ with_domain_in ds d (F x)
@@ -89,7 +89,7 @@ changed_again F ds ms rs d x live is then =
     ∙ with_domain_in-twice ds d x (F (domain_in (with_domain_in ds d x) d))
     ∙ ap (λ (y : Domain (List Slice)). with_domain_in ds d (F y)) (domain_in-with_same ds d x live)
 
--- An aggregate is put away and another stands for it; then that one is taken away, or the first comes back.
+-- An aggregate is replaced under its number; then the new one is removed, or the old one is put back.
 
 abbrev pub with_aggs : Domain (List Slice) → List (ℕ × List Slice) → Domain (List Slice)
 with_aggs x es = record x { aggs = es }
@@ -135,7 +135,7 @@ split_table ds rs fs ss d a first second live rest one two =
 
 -- One aggregate in place of two.
 
--- what another number stands for stays
+-- the aggregates under other numbers are unchanged
 pub other_found : (ds ms : Domains) (d a b : ℕ) (z : List Slice) → (domain_in ds d).live ≡ true → a ≢ b
     → ms ≡ with_aggs_in ds d (exchanged (domain_in ds d).aggs a z) → agg_in ms d b ≡ agg_in ds d b
 other_found ds ms d a b z live differ is =
@@ -167,7 +167,7 @@ still_live : (ds ms : Domains) (d : ℕ) (es : List (ℕ × List Slice)) → (do
 still_live ds ms d es live is = ap (λ (ys : Domains). (domain_in ys d).live) is
     ∙ ap (λ (y : Domain (List Slice)). y.live) (domain_in-with_same ds d (with_aggs (domain_in ds d) es) live) ∙ live
 
--- both come back, the second first
+-- both are put back, the second first
 pub both_back : (ds fs ss bs rs : Domains) (d a b : ℕ) (y z xs ys : List Slice) → (domain_in ds d).live ≡ true
     → Some xs ≡ agg_in ds d a → Some ys ≡ agg_in fs d b → fs ≡ with_aggs_in ds d (exchanged (domain_in ds d).aggs a y)
     → ss ≡ with_aggs_in fs d (exchanged (domain_in fs d).aggs b z)

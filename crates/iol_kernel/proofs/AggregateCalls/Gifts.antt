@@ -1,4 +1,4 @@
--- An aggregate goes from one domain to another, or to the same under a new number.
+-- An aggregate is given to another domain, or to the same one under a new number.
 use Rattle.std.proofs.Common.{◌≡◌, ◌≢◌, ℕ, ◌<◌, ◌==◌, List, length, ap, ◌∙◌, refl, sym, subst, arith, [], Some, inl}
 use Rattle.std.proofs.Common.{inr, true}
 use Rattle.std.specs.Prelude.{if◌then◌else◌}
@@ -67,7 +67,7 @@ given_either s d a e t live = elim (cases_eq d e) [
   | inr differ ↦ given_across s d a e t differ ∙ grind (arith, nat_tests, differ)
 ]
 
--- What the giver's change leaves of a domain.
+-- The facts of a domain that the giver's change leaves unchanged.
 
 kept : {B : Type 0} (g : Domain (List Slice) → B) (ds : List (Domain (List Slice))) (d e : ℕ) (x : Domain (List Slice))
     → g x ≡ g (domain_in ds d) → g (domain_in (with_domain_in ds d x) e) ≡ g (domain_in ds e)

@@ -1,4 +1,4 @@
--- An aggregate is made of new bytes, after clean extents gave way.
+-- An aggregate is made of new bytes, after evictions of clean extents.
 use Rattle.std.proofs.Common.{◌≡◌, ℕ, ◌∙◌, Bool, List, [], ◌∷◌, length, Some, refl, sym, ap, subst, true, false}
 use Rattle.std.specs.Prelude.{Result, Ok, Err, is_none, nat_lt, not}
 use Rattle.iol_arena.specs.State.{pages_for}
@@ -19,7 +19,7 @@ use Rattle.iol_kernel.specs.Readings.{Reading, bytes_over}
 use Rattle.iol_kernel.proofs.State.AfterRoom.{kept_machine, kept_reading, late_step, places_filled, places_late}
 use Rattle.iol_kernel.proofs.State.AfterRoom.{places_none}
 
--- What the call asks does not look at the bytes of files.
+-- The tests of the call do not depend on the bytes of files.
 
 live_blind : (d : ℕ) (s : State) (x : List (List ℕ)) → machine.is_live (record s { slots = x }) d ≡ machine.is_live s d
 unfolding machine.domain
@@ -45,7 +45,7 @@ make_blind : (d : ℕ) (bytes : List ℕ) (s : State) (x : List (List ℕ))
 unfolding machine.domain machine.pool
 make_blind d bytes s x = refl
 
--- Its tests are not for memory.
+-- None of its tests gives Memory.
 
 five_tests : (p : ℕ) (a b c d e : Bool)
     → first ((NoDomain when a) ∷ (NoPool when b) ∷ (TooLong when c) ∷ (TooMany when d) ∷ (PoolClosed p when e) ∷ [])
@@ -119,7 +119,7 @@ module _ (pool pages : ℕ) (h k : KernelState) (room : MakesRoom pool pages h k
         (places_late (λ s. aggs.agg_make s d bytes) (λ s t. aggs.with_agg s d t) pool (length bytes) h k l x room' roomy
         fits (make_late l x next.late next.err) next.err next.late next.room.no_room)
 
--- where the bytes have no room
+-- the bytes do not fit
 pub make_none : (pool d : ℕ) (bytes : List ℕ) (h k : KernelState) → MakesRoom pool (pages_for (length bytes)) h k
     → k ≡ h → MayMake d bytes pool h → can_fit h pool (length bytes) ≡ false
     → Places (λ s. aggs.agg_make s d bytes) (λ s t. aggs.with_agg s d t) (aggs.default_pool (machine_of [] h) d)

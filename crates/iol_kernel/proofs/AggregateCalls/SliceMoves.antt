@@ -44,7 +44,7 @@ use Rattle.iol_kernel.proofs.AggregateCalls.Slices.{agg_live, agg_shared, agg_th
 use Rattle.iol_core.specs.declared.limits.TheConstants.{MAX_AGGREGATES, MAX_AGGREGATE_BYTES}
 use Rattle.iol_kernel.specs.Calls.{Answers}
 
--- One domain's aggregates change, and the store goes on.
+-- One domain's aggregates change, and the store's counts with them.
 regrouped-sound : (h : KernelState) (t : Stored) (d : ℕ) (x : Domain (List Slice)) (given taken : List BufId)
     → IsSound h → (domain_in h.domains d).live ≡ true → x.fds ≡ (domain_in h.domains d).fds
     → Shares h.store t taken given
@@ -193,7 +193,7 @@ split_in {h} {d} {a} {at} may = record {
   shared = agg_shared may.has;
 }
 
--- Two aggregates are joined; the store stays as it was.
+-- Two aggregates are joined; the store is unchanged.
 
 join-view : (f : Reading) (ds : List (Domain (List Slice))) (ps : List Pool) (qs : Objects (List Slice)) (d a b : ℕ)
     → state_view f (joined_in ds d a b) ps qs ≡ (aggs.agg_join (state_view f ds ps qs) d a b).after

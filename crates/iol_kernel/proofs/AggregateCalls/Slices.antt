@@ -1,4 +1,4 @@
--- A domain's aggregate in a sound state, as slices: none where there is no such aggregate.
+-- A domain's aggregate in a sound state, as slices: an empty list if there is no such aggregate.
 use Rattle.std.proofs.Common.{◌≡◌, ◌≢◌, ℕ, ◌≤◌, List, [], ◌++◌, ap, sym, refl, arith, Option, Some, None, true, false}
 use Rattle.std.proofs.Common.{◌∙◌, inl, inr}
 use Rattle.std.specs.Prelude.{unwrap_or, option_map, is_none}
@@ -39,7 +39,7 @@ found_slices ds d a there = of (agg_in ds d a) there
     of None none = absurd (none refl)
     of (Some xs) some = refl
 
--- found in a table that is as it was
+-- found in an unchanged table
 pub slices_kept : {ds es : List (Domain (List Slice))} (d a : ℕ) {xs : List Slice} → es ≡ ds → Some xs ≡ agg_in es d a
     → slices_in ds d a ≡ xs
 slices_kept {ds} {es} d a {xs} same found =
@@ -81,7 +81,7 @@ pub no_agg_missing : (h : KernelState) (d a : ℕ) → (domain_in h.domains d).l
     → IsMissing h d a BadAgg
 no_agg_missing h d a live none = inr (refl, λ f. (is_live-read_of f h d ∙ live, none_held f h d a none))
 
--- what is known of its slices
+-- facts of its slices
 
 pub slices_readable : (h : KernelState) (d a : ℕ) → IsSound h → AllReadable h.store (slices_in h.domains d a)
 slices_readable h d a sound = found (agg_in h.domains d a) (λ xs is. agg_readable h d a xs sound is)
@@ -120,7 +120,7 @@ thrice_countable h d a b sound =
       );
     }
 
--- what a domain has
+-- facts of an aggregate of a domain
 
 pub agg_live : {h : KernelState} {d a : ℕ} → HasAgg h d a → (domain_in h.domains d).live ≡ true
 agg_live {h} {d} has = live_held (bytes_over [] h.store) h d has.lives.live

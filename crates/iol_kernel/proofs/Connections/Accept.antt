@@ -1,4 +1,4 @@
--- A domain accepts a connection that waits.
+-- A domain accepts a waiting connection.
 use Rattle.std.proofs.Common.{◌≡◌, ◌≢◌, ℕ, ◌+◌, ◌≤◌, ◌&&◌, Bool, not, true, false, cond, List, [], ◌∷◌, ap, ◌∙◌, refl}
 use Rattle.std.proofs.Common.{sym, subst, arith, Option, Some, None, inl, inr}
 use Rattle.std.specs.Prelude.{option_map, unwrap_or}
@@ -34,7 +34,7 @@ use Rattle.iol_kernel.proofs.State.ReadOf.{fds-read_of, may_read-read_of}
 use Rattle.iol_kernel.proofs.State.Sound.{each-placed, ends_open}
 use Rattle.iol_kernel.proofs.State.Stay.{stays_here}
 
--- the first that waits, as the machine has it
+-- the first waiting connection, as the machine has it
 
 find-seen : (f : Reading) (test other : ℕ → Bool) → ((p : ℕ) → test p ≡ other p) → (cs : Conns)
     → option_map (λ e. e.0) (find (λ e. not e.1.accepted && test e.1.pool) (seen f cs))
@@ -65,7 +65,7 @@ waiting-read_of f h d =
     (find (λ e. not e.1.accepted && machine.may_read (read_of f h) d e.1.pool) cs)) (conns-read_of f h)
     ∙ find-seen f (machine.may_read (read_of f h) d) (λ p. names_in h.store.pools p d) (may_read-read_of f h d) h.conns
 
--- it is there, and waits
+-- the connection exists, and waits
 
 record Waits (cs : Conns) (c : ℕ) : Type 0 where
   pub conn : Conn (List Slice)

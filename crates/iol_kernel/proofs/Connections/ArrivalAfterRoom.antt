@@ -1,4 +1,4 @@
--- Bytes come in on a connection, after clean extents gave way.
+-- Bytes arrive on a connection, after evictions of clean extents.
 use Rattle.std.proofs.Common.{◌≡◌, ℕ, ◌∙◌, arith, Bool, Option, List, [], ◌∷◌, length, Some, None, refl, sym, ap, true}
 use Rattle.std.proofs.Common.{false}
 use Rattle.std.specs.Prelude.{◌-◌, ◌==◌, ◌&&◌, ◌||◌, Result, Err, is_some, min, nat_lt}
@@ -26,7 +26,7 @@ use Rattle.iol_kernel.specs.Readings.{Reading, bytes_over}
 use Rattle.iol_kernel.proofs.Connections.OneConnection.{conn_found, conn_missing}
 use Rattle.iol_kernel.proofs.State.AfterRoom.{kept_machine, none_fit, queue_none, queue_places}
 
--- What an arrival asks does not look at the bytes of files.
+-- The tests of an arrival do not depend on the bytes of files.
 
 pub lacks_same : (c : ℕ) (s : State) (x : List (List ℕ))
     → outside.lacks_conn (record s { slots = x }) c ≡ outside.lacks_conn s c
@@ -51,7 +51,7 @@ late_is : (c : ℕ) (bytes : List ℕ) (s : State) (x : Refusal) → outside.arr
 late_is c [] s x is = absurd is
 late_is c (b ∷ bytes) s x is = is
 
--- Its tests are not for memory, and those of a connection are not either.
+-- None of its tests gives Memory, and neither does a test of a connection.
 
 two_tests : (a b : Bool) → first ((BrokenPipe when a) ∷ (WouldBlock when b) ∷ []) ≡ Some Memory → ⊥
 two_tests true b is = absurd (cc is)

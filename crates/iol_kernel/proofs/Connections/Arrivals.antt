@@ -1,4 +1,4 @@
--- What arrives at a connection, and what is sent of it.
+-- Bytes that arrive on a connection.
 use Rattle.std.proofs.Common.{◌≡◌, ◌≢◌, ℕ, ◌≤◌, ◌==◌, ◌&&◌, ◌||◌, Bool, not, List, [], ◌∷◌, ◌++◌, length, map, take, ap}
 use Rattle.std.proofs.Common.{◌∙◌, refl, sym, subst, arith, Option, Some, None, true, false}
 use Rattle.std.specs.Prelude.{if◌then◌else◌, is_some, MatchOption, Result, Ok, Err, OnErr}
@@ -38,7 +38,7 @@ use Rattle.iol_kernel.proofs.State.AfterRoom.{fills_none, fills_some}
 use Rattle.iol_kernel.proofs.State.NumberedEntries.{each_found}
 use Rattle.iol_kernel.proofs.Connections.OneConnection.{conn_found, conn_in-found, turned, turned-read}
 
--- a connection to which more may come is not over, whatever it holds
+-- a connection on which more bytes may arrive is not over
 pub going : (y : Connection) → (is_some y.peer || y.closed) ≡ false → machine.is_over y ≡ false
 going y on' = of y.peer y.closed on' (length y.outgoing == 0) y.accepted
   where
@@ -53,7 +53,7 @@ going y on' = of y.peer y.closed on' (length y.outgoing == 0) y.accepted
     of None true is empty accepted = absurd (cc is)
     of (Some how) closed is empty accepted = absurd (cc is)
 
--- one that is not over is changed
+-- `with_conn` changes a connection that is not over
 pub changed_on : (s : State) (c : ℕ) (z : Connection) → machine.is_over z ≡ false
     → machine.with_conn s c z ≡ record s { conns = changed s.conns c z }
 unfolding machine.with_conn
@@ -73,7 +73,7 @@ module _ (h : KernelState) (t : Stored) (c : ℕ) (x : Conn (List Slice)) (q : L
       (λ was more. (more was.0, was.1)) (λ was. record { incoming = short; outgoing = was.outgoing; waits = was.waits })
       refl (λ open'. open')
 
-  -- whatever is read, the rest lies where it lay
+  -- for each reading, all other bytes keep their places
   arrived-read : (is_some x.peer || x.closed) ≡ false → (f : Reading)
       → read_of f arrived ≡ with_incoming c (read_of f h) (read f adds.slices)
   arrived-read on' f =
@@ -109,7 +109,7 @@ module _ (h : KernelState) (t : Stored) (c : ℕ) (x : Conn (List Slice)) (q : L
       (added-read h t x.incoming q x.pool bytes sound adds stored)
       ∙ ap (with_incoming c (machine_of stored h)) adds.is_text
 
--- What the call means.
+-- The meaning of the call.
 
 open_for : (b : Bool) (rest : List (Option Refusal)) → first ((BrokenPipe when b) ∷ rest) ≡ None → b ≡ false
 open_for false rest passed = refl
@@ -165,7 +165,7 @@ arrive_done stored h k c n x bytes found passed number is =
           (labelled (machine.conn_at (machine_of stored h) c).pool (take m bytes))) count,
     )
 
--- All of it, for the state that it leaves.
+-- The whole call, and the state after it.
 
 module _ (h k : KernelState) (c n : ℕ) (bytes : List ℕ) (sound : IsSound h) (there : lookup h.conns c ≢ None)
     (passed : first (arrive_refusals (conn_in h.conns c) (length bytes)) ≡ None)
@@ -216,7 +216,7 @@ module _ (h k : KernelState) (c n : ℕ) (bytes : List ℕ) (sound : IsSound h) 
       (arrived h k.store c (conn_in h.conns c) (conn_in k.conns c).incoming (take n bytes) sound found adds short))
       len made))
 
--- of any number of bytes: those that fit arrive, or the refusal leaves what was there
+-- any number of bytes: those that fit arrive, and a refusal changes nothing
 pub arrives : (h k : KernelState) (c : ℕ) (bytes : List ℕ) (r : Result ℕ Refusal) → IsSound h → lookup h.conns c ≢ None
     → ArrivesOn h.store k.store (conn_in h.conns c) (conn_in k.conns c) bytes r
     → k ≡ record h {

@@ -1,4 +1,4 @@
--- A domain closes a connection: what came in is dropped, and it is forgotten where nothing is left to send.
+-- A domain closes a connection: its unread input is dropped, and it is removed if nothing is left to send.
 use Rattle.std.proofs.Common.{◌≡◌, ◌≢◌, ℕ, ◌+◌, Bool, true, false, List, [], ◌∙◌, ap, refl, sym, subst, arith, None}
 use Rattle.std.specs.List.{AllByRecursion}
 use Rattle.std.proofs.Common.{Some}

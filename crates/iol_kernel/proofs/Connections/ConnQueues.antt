@@ -17,7 +17,7 @@ use Rattle.iol_kernel.proofs.Connections.OneConnection.{Conns, IsOpenConn, conn_
 use Rattle.iol_kernel.proofs.Queues.PipeEnds.{end_held}
 use Rattle.iol_kernel.proofs.State.Views.{lookup-map}
 
--- as the machine sees it, also where there is none
+-- as the machine sees it, also if it does not exist
 
 pub conn_at-read_of : (f : Reading) (h : KernelState) (c : ℕ)
     → machine.conn_at (read_of f h) c ≡ conn_view (read f) (conn_in h.conns c)
@@ -35,7 +35,7 @@ pub incoming-read_of : (f : Reading) (h : KernelState) (c : ℕ)
     → (machine.conn_at (read_of f h) c).incoming ≡ read f (conn_in h.conns c).incoming
 incoming-read_of f h c = ap (λ (x : Connection). x.incoming) (conn_at-read_of f h c)
 
--- one that is not there
+-- a connection that does not exist
 
 pub conn_in-none : (cs : Conns) (c : ℕ) → None ≡ lookup cs c → conn_in cs c ≡ no_conn
 unfolding conn_in
@@ -54,7 +54,7 @@ module _ (h : KernelState) (d fd c : ℕ) (sound : IsSound h) (at : (f : Reading
   pub found_held : lookup h.conns c ≡ Some (conn_in h.conns c)
   found_held = conn_in-found h.conns c conn_there_held
 
--- so it is not over, whatever it holds
+-- so it is not over
 
 is_on : (y : Connection) → y.accepted ≡ true → y.closed ≡ false → machine.is_over y ≡ false
 is_on y accepted' closed' = of (length y.outgoing == 0) y.accepted y.closed (machine.is_gone y.peer) accepted' closed'

@@ -1,4 +1,4 @@
--- New bytes lie at the end of one of a connection's queues: it was x, and is y.
+-- New bytes at the end of one of a connection's queues: the connection was x, and is y.
 use Rattle.std.proofs.Common.{◌≡◌, ℕ, ◌+◌, List, Some, arith}
 use Rattle.std.specs.Prelude.{Err, Ok, OnErr, Result}
 use Rattle.iol_core.specs.NumberedLists.{changed, lookup}
@@ -43,7 +43,7 @@ module _ (h : KernelState) (t : Stored) (c pool : ℕ) (x y : Conn (List Slice))
       (limit (each_found held.IsConn h.conns c x sound.limits.objects.conns found)))
       (turned_pooled h t c x y sound found pool' (pools_pooled h.store t h.conns h.cache.files adds.pools sound.pooled))
 
--- a refusal leaves the table and the store
+-- a refusal leaves the table and the store unchanged
 pub kept_table : {A : Type 0} (h : KernelState) (t : Stored) (old w : ConnTable) (c : ℕ) (r : Result A Refusal)
     → ChangesOne old w c → OnErr r ((conn_in w.conns c ≡ conn_in old.conns c) × (t ≡ h.store))
     → OnErr r (record h { store = t; conns = w.conns; next_conn = w.next } ≡ record h {

@@ -1,4 +1,4 @@
--- One connection changes or goes, as the machine sees it, and all stays sound.
+-- One connection changes or is removed, as the machine sees it, and the state stays sound.
 use Rattle.std.proofs.Common.{◌≡◌, ◌≢◌, ℕ, ◌+◌, ◌<◌, ◌≤◌, ◌==◌, ◌&&◌, ◌||◌, Bool, not, List, [], ◌∷◌, ◌++◌, length, map}
 use Rattle.std.specs.List.{AllByRecursion}
 use Rattle.std.proofs.Common.{ap, ◌∙◌, refl, sym, subst, arith, Option, Some, None, true, false, inl, inr}
@@ -79,7 +79,7 @@ rising-read_of f h sound =
     subst (λ (cs : List (ℕ × Connection)). Rises 0 cs h.next_conn) (sym (conns-read_of f h))
     (rises-map (conn_view (read f)) h.conns 0 h.next_conn sound.limits.objects.rising)
 
--- a connection that is there, and one that is not
+-- a connection that exists, and one that does not
 pub conn_found : (f : Reading) (h : KernelState) (c : ℕ) (x : Conn (List Slice)) → lookup h.conns c ≡ Some x
     → IsConn f.at (read_of f h) c x
 conn_found f h c x found = ap (λ (cs : List (ℕ × Connection)). lookup cs c) (conns-read_of f h)
@@ -95,7 +95,7 @@ pub conn_there : (f : Reading) (h : KernelState) (c : ℕ) (x : Conn (List Slice
     → outside.lacks_conn (read_of f h) c ≡ false
 conn_there f h c x found = ap (λ (o : Option Connection). is_none o) (conn_found f h c x (sym found))
 
--- a connection of the machine's is there
+-- a connection of the machine exists
 pub conn_held : (f : Reading) (h : KernelState) (c : ℕ) → outside.lacks_conn (read_of f h) c ≡ false
     → lookup h.conns c ≢ None
 conn_held f h c there = λ none. (let lacks = conn_missing f h c (sym none) in cc (lacks, there))
@@ -204,13 +204,13 @@ pub open-push : (cs : Conns) (c n : ℕ) (x : Conn (List Slice)) → IsOpenConn 
     → IsOpenConn (conn_in (cs ++ (c, x) ∷ []) n)
 open-push cs c n x open' = open_as cs (cs ++ (c, x) ∷ []) n (lookup-push cs c n x (open_conn-there cs n open')) open'
 
--- Other connections, and all else as it was.
+-- Other connections, with all else unchanged.
 
 module _ (h : KernelState) (cs : Conns) (next : ℕ) where
   abbrev others : Objects (List Slice)
   others = record (objects_of h) { conns = cs; next_conn = next }
 
-  -- what is open stays so, where connections do
+  -- open ends stay open, if open connections do
   others_end : ((n : ℕ) → IsOpenConn (conn_in h.conns n) → IsOpenConn (conn_in cs n)) → (e : Option Descriptor)
       → IsOpenEnd (objects_of h) e → IsOpenEnd others e
   others_end keeps None open' = tt
@@ -246,7 +246,7 @@ module _ (h : KernelState) (cs : Conns) (next : ℕ) where
         };
       }
 
--- The connection c, which was x, is y, and the store went on from h's to t.
+-- The connection c was x and is y, and the store was h's and is t.
 
 module _ (h : KernelState) (t : Stored) (c : ℕ) (x y : Conn (List Slice)) (sound : IsSound h)
     (found : lookup h.conns c ≡ Some x) where
@@ -289,7 +289,7 @@ module _ (h : KernelState) (t : Stored) (c : ℕ) (x y : Conn (List Slice)) (sou
     files_open = pooled.files_open;
   }
 
-  -- where it is open still, if it was
+  -- a descriptor stays open on it, if it stays open
   pub turned_fds : (IsOpenConn x → IsOpenConn y)
       → AllByRecursion (λ (d : Domain (List Slice)). AllByRecursion (IsOpenEnd (objects_of turned)) d.fds) h.domains
   turned_fds keeps =
@@ -312,7 +312,7 @@ module _ (h : KernelState) (t : Stored) (c : ℕ) (x y : Conn (List Slice)) (sou
       ∙ ap (λ (cs : List (ℕ × Connection)). record (read_of f h) { conns = cs })
       (changed-map (conn_view (read f)) h.conns c y)
 
-  -- what it holds is part of what it held
+  -- the slices of y could be read in the old store
   module _ (counts : (b : BufId) → count_of t b + conn_uses b (c, x) ≡ count_of h.store b + conn_uses b (c, y))
       (stays : Stays h.store t) (tidy : IsTidy t) (still : IsStill t.arena) (reclaimed : AllReclaimed t)
       (lists : SameLists h.store t) (count : page_count t.arena ≡ page_count h.store.arena)
@@ -335,7 +335,7 @@ module _ (h : KernelState) (t : Stored) (c : ℕ) (x y : Conn (List Slice)) (sou
         (sym (ap F (conn_at-is f.at (read_of f h) c x (conn_found f h c x found)) ∙ as_meant f)))
         refl refl stays pages sound.domains (turned_good readable) turned-sound
 
--- what it holds is held
+-- its buffers are covered
 pub conn_covered : (h : KernelState) (c : ℕ) (x : Conn (List Slice)) → IsSound h → lookup h.conns c ≡ Some x
     → Covers h.store (held_by x)
 conn_covered h c x sound found =
@@ -366,7 +366,7 @@ conn_open h c x sound found =
     each_found (λ (e : ℕ × Conn (List Slice)). (pool_in h.store.pools e.1.pool).closed ≡ false) h.conns c x
     sound.pooled.opened found
 
--- and lies there
+-- and its slices can be read
 pub conn_readable : (h : KernelState) (c : ℕ) (x : Conn (List Slice)) → IsSound h → lookup h.conns c ≡ Some x
     → IsConnReadable h.store (c, x)
 conn_readable h c x sound found = each_found (IsConnReadable h.store) h.conns c x sound.objects.conns found
@@ -375,7 +375,7 @@ pub conn_limit : (h : KernelState) (c : ℕ) (x : Conn (List Slice)) → IsSound
     → held.IsConn (c, x)
 conn_limit h c x sound found = each_found held.IsConn h.conns c x sound.limits.objects.conns found
 
--- A connection that is over goes, and others stay.
+-- A connection that is over is removed, and others stay.
 
 pub not_over : (s : State) (c : ℕ) (to : ℕ) (w : Connection) → Rises 0 s.conns to → lookup s.conns c ≡ Some w
     → machine.is_over w ≡ false → machine.with_conn s c (machine.conn_at s c) ≡ s
@@ -392,7 +392,7 @@ is_over_gone s c w found over =
     ap (λ (o : Option Connection). machine.with_conn s c (unwrap_or o machine.no_conn)) found
     ∙ ap (λ b. record s { conns = if b then without s.conns c else changed s.conns c w }) over
 
--- changed first, and then settled
+-- changed first, and then removed if it is over
 pub reclaimed_after : (s : State) (c : ℕ) (to : ℕ) (w z : Connection) → Rises 0 s.conns to → lookup s.conns c ≡ Some w
     → (let m : State = record s { conns = changed s.conns c z } in machine.with_conn m c (machine.conn_at m c))
     ≡ machine.with_conn s c z
@@ -417,7 +417,7 @@ module _ (h : KernelState) (c : ℕ) (x : Conn (List Slice)) (sound : IsSound h)
       (conn_found f h c x found) (over_meant f.at x ∙ on')))
       refl refl (stays_here h.store) (pages_here h.store) sound.domains sound.objects sound
 
-  -- it goes, and what is open on others stays so
+  -- it is removed, and other ends stay open
   pub gone_keeps : is_over x ≡ true → (end : Descriptor) (cs : Conns) (n : ℕ) → cs ≡ without h.conns c
       → KeepsEnds end (objects_of h) (record (objects_of h) { conns = cs; next_conn = n })
   gone_keeps over end cs n rest =
@@ -505,13 +505,14 @@ module _ (h : KernelState) (c : ℕ) (x : Conn (List Slice)) (sound : IsSound h)
 pub some_same : {x y : Conn (List Slice)} → Some x ≡ Some y → x ≡ y
 some_same e = cc
 
--- A connection changed, and is there yet: what the call means once it is settled, which is forgotten where it is over.
+-- A connection changed, and still exists. Once it is settled, that is, removed if it is over, the machine's state is
+-- that of `after`.
 pub record IsChanged (c : ℕ) (after : State → State) (h k : KernelState) : Type 0 where
   pub sound : IsSound k
   pub there : lookup k.conns c ≢ None
   pub left : (l : KernelState) → Leaves (λ s. machine.with_conn s c (machine.conn_at s c)) k l → Leaves after h l
 
--- changed and settled: what the call means
+-- changed and settled: the machine's state
 pub conn_left : (h k l : KernelState) (c : ℕ) (x : Conn (List Slice)) (F : Connection → Connection) → IsSound h
     → lookup h.conns c ≡ Some x
     → Leaves (λ s. record s { conns = changed s.conns c (F (machine.conn_at s c)) }) h k

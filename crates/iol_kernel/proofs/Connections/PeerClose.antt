@@ -73,7 +73,7 @@ module _ (h : KernelState) (t : Stored) (c : ℕ) (x : Conn (List Slice)) (sound
         (left_good how) (left_limit how) (left_pool how) (left_fds how)
         (λ w. outside.closed_by w how) (λ f. closes_meant f.at x how) (keeps_pages_frees frees)
 
--- All of it, for the state that it leaves.
+-- The whole call, and the state after it.
 
 module _ (h k : KernelState) (c : ℕ) (how : How) (sound : IsSound h) (there : lookup h.conns c ≢ None)
     (same : k ≡ record h { store = k.store; conns = changed h.conns c (closed_by (conn_in h.conns c) how) })

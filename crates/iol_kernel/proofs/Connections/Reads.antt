@@ -1,4 +1,4 @@
--- Reading from a connection: a domain gets the front of what came in, whatever is read at the places.
+-- Reading from a connection: a domain gets the front of its input, for each reading of places.
 use Rattle.std.proofs.Common.{◌≡◌, ℕ, ◌+◌, ◌<◌, ◌≤◌, List, [], ◌∷◌, ◌++◌, length, take, drop, map, ap, ◌∙◌, refl, sym}
 use Rattle.std.proofs.Common.{subst, arith, Option, Some}
 use Rattle.std.specs.List.{prefix_len, take_while, AllByRecursion}
@@ -126,7 +126,7 @@ module _ (h k : KernelState) (d fd c n : ℕ) (held : IsOpenOn h d fd (on.Connec
   less_fds : AllByRecursion (λ (x : Domain (List Slice)). AllByRecursion (IsOpenEnd (objects_of less)) x.fds) h.domains
   less_fds = turned_fds h k.store c (conn_in h.conns c) rest held.sound there (λ open'. open')
 
-  -- what is read
+  -- the bytes that are read
 
   lists : SameLists h.store k.store
   lists = ap (map pool_meant) takes.shares.pools

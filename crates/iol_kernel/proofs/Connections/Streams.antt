@@ -1,4 +1,4 @@
--- What comes in from a reader and what goes out to a writer, of a connection.
+-- Bytes that come from a reader and bytes that go to a writer, on a connection.
 use Rattle.std.proofs.Common.{◌≡◌, ◌≢◌, ℕ, zero, suc, ◌-◌, ◌≤◌, ◌==◌, ◌&&◌, ◌||◌, Bool, List, [], ◌∷◌, ◌++◌, length}
 use Rattle.std.proofs.Common.{take, drop, ap, ◌∙◌, refl, sym, subst, arith, Option, Some, None, true, false}
 use Rattle.std.specs.Prelude.{◌<◌, min, nat_lt, is_some, MatchOption, Ok}
@@ -43,7 +43,7 @@ use Rattle.iol_kernel.proofs.State.NumberedEntries.{changed_same}
 use Rattle.iol_kernel.proofs.Connections.Transmissions.{shorter, sent-sound, sent_leaves}
 use Rattle.iol_kernel.specs.Readings.{read, bytes_over}
 
--- What comes in.
+-- Input.
 
 -- bytes that fit do not wait
 fits_all : (xs : List Slice) (n : ℕ) → n ≤ MAX_QUEUE_BYTES - byte_len xs → fitting xs n ≡ n
@@ -111,7 +111,7 @@ module _ (h : KernelState) (c max : ℕ) (there : lookup h.conns c ≢ None) whe
     left = left;
   }
 
-  -- refused as the connection is
+  -- the tests of the machine are those of the connection
   asked : (b : Bool) → first ((BadRange when b) ∷ (outside.arrive (machine_of [] h) c (0 ∷ [])).refusals)
       ≡ first ((BadRange when b) ∷ arrive_refusals x 1)
   asked true = refl
@@ -139,7 +139,7 @@ module _ (h : KernelState) (c max : ℕ) (there : lookup h.conns c ≢ None) whe
   pub read_room : (b : Bool) → has_room h.store x.pool 1 ≡ b → has_room h.store (conn_at (machine_of [] h) c).pool 1 ≡ b
   read_room b has = ap (λ p. has_room h.store p 1) (arrive_pool [] h c x found) ∙ has
 
--- what one read brings in, of n bytes
+-- the result of one read, of n bytes
 pub record BroughtIn (h k : KernelState) (c max n : ℕ) (left after : Option (List ℕ)) : Type 0 where
   pub sound : IsSound k
   pub made : Arrives c n h k
@@ -203,7 +203,7 @@ module _ (h k : KernelState) (c max n : ℕ) (left after : Option (List ℕ)) (s
     most = subst (λ l. n ≤ min (min max PAGE_BYTES) (MAX_QUEUE_BYTES - l)) (sym (incoming_len h c max there)) most;
   }
 
--- What goes out.
+-- Output.
 
 sent_some : (c n : ℕ) (s : State) → (n ≡ 0 → ⊥) → with_conn s c (shorter n (conn_at s c)) ≡ sent_on c n s
 sent_some c zero s some = absurd (some refl)
@@ -215,7 +215,7 @@ sent_none c zero to s w none rising found is = ap (λ (y : Connection). record s
     ∙ ap (λ (cs : List (ℕ × Connection)). record s { conns = cs }) (changed_same s.conns 0 to c w rising found)
 sent_none c (suc n) to s w none rising found is = absurd (cc none)
 
--- what was lent is off the queue, once the connection is settled where some of it was sent
+-- n bytes were taken off the output. If n is not 0, the machine's state is complete once the connection is settled.
 pub record Lent (h m : KernelState) (c n : ℕ) : Type 0 where
   pub sound : IsSound m
   pub there : lookup m.conns c ≢ None

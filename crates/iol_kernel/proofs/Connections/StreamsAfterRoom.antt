@@ -1,4 +1,4 @@
--- What comes in from a reader, after clean extents gave way.
+-- Bytes that come from a reader, after evictions of clean extents.
 use Rattle.std.proofs.Common.{◌≡◌, ℕ, ◌-◌, ◌==◌, ◌∙◌, Bool, Option, List, [], ◌∷◌, length, Some, None, refl, sym, ap}
 use Rattle.std.proofs.Common.{subst, inr, true, false}
 use Rattle.std.specs.Prelude.{Result, Ok, Err, OnOk, OnErr, IfOk, IfErr, MatchOption, min}
@@ -34,7 +34,7 @@ use Rattle.iol_kernel.proofs.Connections.ArrivalAfterRoom.{lacks_same, pool_same
 use Rattle.iol_kernel.proofs.Connections.OneConnection.{conn_found, conn_missing, conn_there}
 use Rattle.iol_kernel.proofs.State.CacheUntouched.{backed_stays}
 
--- What is known of a result, said of it as it is.
+-- A fact, stated of a result.
 
 pub on_ok : {A : Type 0} {P : Type 0} (r : Result A Refusal) → P → OnOk r P
 on_ok (Ok a) p = p
@@ -78,7 +78,7 @@ slots_beside : (k l : KernelState) → machine_of [] l ≡ machine_of [] k → (
 unfolding with_slots
 slots_beside k l same slots = ap (λ (s : State). record s { slots = slots }) same
 
--- The reading itself, from where room was made.
+-- The read itself, after room was made.
 
 module _ (c max pool : ℕ) (h k : KernelState) (room : MakesRoom pool (pages_for 1) h k)
     (in_pool : (conn_at (machine_of [] h) c).pool ≡ pool) where

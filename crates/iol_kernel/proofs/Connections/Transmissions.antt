@@ -1,4 +1,4 @@
--- What is sent of a connection. The machine does not see the remembered sums, which change.
+-- Bytes that a connection sends. The machine does not see the remembered sums, which change.
 use Rattle.std.proofs.Common.{◌≡◌, ◌≢◌, ℕ, ◌+◌, List, [], ◌∷◌, length, take, drop, ap, ◌∙◌, refl, sym, subst, arith}
 use Rattle.std.proofs.Common.{Option, Some, None, true, false}
 use Rattle.std.specs.Prelude.{Result, Ok, Err, MatchOption, Bool, ◌==◌}
@@ -75,7 +75,7 @@ sums_back after k l sums sound one = record {
   stays = one.stays;
 }
 
--- the first bytes to be sent go
+-- without the first bytes of the output
 abbrev pub shorter : (max : ℕ) → Connection → Connection
 shorter max w = record w { outgoing = drop max w.outgoing }
 
@@ -119,7 +119,7 @@ module _ (h : KernelState) (t : Stored) (c max : ℕ) (x : Conn (List Slice)) (q
       (λ f. ap (λ (u : Text). record (conn_view (read f) x) { outgoing = u })
       (sym (read_rest f.at q x.outgoing max rest))) (keeps_pages_frees frees)
 
--- What the call means.
+-- The meaning of the call.
 
 pub send_refused : (stored : List (List ℕ)) (h : KernelState) (c max : ℕ) (x : Conn (List Slice)) (r : Refusal)
     → lookup h.conns c ≡ Some x → IsRefused (segment_refusals x max) WantOfMemory r
@@ -148,7 +148,7 @@ send_done stored h k c max x bytes sum found passed first' sum' is =
       is,
     )
 
--- All of it: the first bytes go, with other sums, and then the connection where it is over.
+-- The whole call: the first bytes are taken off, the sums change, and then the connection is removed if it is over.
 
 never : {A : Type 0} (x : A) (p : ℕ) → ◌≡◌ {A = Result A Refusal} (Ok x) (Err (NoRoom p)) → ⊥
 never x p e = cc e
@@ -242,7 +242,7 @@ send_kept h k c max r sound there refused same =
       stays = stays_here h.store;
     })
 
--- settling leaves the sums
+-- settling leaves the sums unchanged
 pub uses_kept : {s : Stored} {queue : List Slice} {n : ℕ} {old new after : Sums} → after ≡ new
     → UsesSent s queue n old new → UsesSent s queue n old after
 uses_kept {s} {queue} {n} {old} same uses = subst (λ (w : Sums). UsesSent s queue n old w) (sym same) uses

@@ -1,4 +1,4 @@
--- Writing to a connection: its queue gets what fits, whatever is read at the places.
+-- Writing to a connection: its queue gets the bytes that fit, for each reading of places.
 use Rattle.std.proofs.Common.{◌≡◌, ℕ, ◌+◌, List, [], ◌++◌, length, length-append, take, map, ap, ◌∙◌, refl, sym, subst}
 use Rattle.std.proofs.Common.{arith, Option, Some, None}
 use Rattle.std.specs.Prelude.{Err, MatchOption}
@@ -61,7 +61,7 @@ module _ (h : KernelState) (d fd a c : ℕ) (from : List Slice) (sound : IsSound
       (conn_found f h c (conn_in h.conns c) there'))
       ∙ agg_last s d fd a passed (Some (on.Connection c)) (to f)
 
-  -- so it is refused for want of memory alone
+  -- so it is refused only for lack of memory
   pub queue_refused : ((f : Reading) → first (writing.iol_write (read_of f h) d fd a).refusals ≡ None)
       → (k : KernelState) (r : Refusal) → IsRefused (queue_refusals (conn_in h.conns c) (byte_len from)) WantOfMemory r
       → k ≡ h → CarriesOut (λ s. writing.iol_write s d fd a) h (Err r) k
@@ -73,7 +73,7 @@ module _ (h : KernelState) (d fd a c : ℕ) (from : List Slice) (sound : IsSound
       (λ f. subst (λ (o : Option Descriptor). writing.write_late (read_of f h) o r) (sym (to f)) wants)
       (λ p is. subst WantOfMemory is wants)
 
-  -- what fits is added
+  -- the bytes that fit are added
 
   module _ (k : KernelState) (n : ℕ) (count : n ≡ fitting (conn_in h.conns c).outgoing (byte_len from))
       (places' : places (conn_in k.conns c).outgoing ≡ places (conn_in h.conns c).outgoing ++ take n (places from))

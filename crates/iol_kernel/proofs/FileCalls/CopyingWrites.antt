@@ -1,4 +1,4 @@
--- A copying write to a file: which pages it fills, and which bytes stay where they lay.
+-- A copying write to a file: the pages that it fills, and the bytes that keep their places.
 use Rattle.std.proofs.Common.{inl, inr, ◌≡◌, ◌∙◌, ℕ, zero, suc, ◌+◌, ◌<◌, true, List, [], ◌∷◌, length, get_or, map, All}
 use Rattle.std.proofs.Common.{Option, Some, None, refl, sym, ap, subst, arith}
 use Rattle.std.specs.List.{Contains}
@@ -50,7 +50,7 @@ use Rattle.iol_kernel.proofs.FileCalls.FileNames.{cache_sound}
 use Rattle.iol_kernel.proofs.State.Stay.{pages_equal}
 use Rattle.iol_kernel.proofs.FileCalls.Overwrites.{pool-file}
 
--- Bytes that lie in the pool are not copied.
+-- Bytes in the pool are not copied.
 
 label_pools : (s : Stored) (p : ℕ) (xs : List Slice) (bytes : List ℕ) → text_of s xs ≡ labelled p bytes
     → All (λ (l : Place). l.pool ≡ p) (places xs)
@@ -87,7 +87,7 @@ copied_none : (s : Stored) (p : ℕ) (xs : List Slice) (bytes : List ℕ) → te
 copied_none s p xs bytes text = ap (copied_pages p) (sym (append-nil xs))
     ∙ own_run p xs [] (own_at p xs (label_pools s p xs bytes text)) ∙ no_pages
 
--- Pages are filled, and then none.
+-- Pages are filled, and then no others.
 
 no_member : (q : ℕ) → Contains (let l : List ℕ = [] in l) q → ⊥
 no_member q h = in_contains [] q h
@@ -110,7 +110,7 @@ filled_then {a = a} {b = b} {c = c} same m n = record {
   returned = λ p is. returned_then a b c same m p (n.returned p is);
 }
 
--- New bytes lie in the file's pool, and are written.
+-- New bytes are in the file's pool, and are written to the file.
 
 module _ (h : KernelState) (s t : Stored) (d : Cached) (f at pool : ℕ) (xs : List Slice) (bytes : List ℕ)
     (apart : AreApart h.cache) (own : pool_of_file h f ≡ pool) (long : byte_len xs ≡ length bytes)
@@ -231,7 +231,7 @@ module _ (f at pool count : ℕ) (bytes : List ℕ) (h k : KernelState) (same : 
       } in
       record { lays = tt; leaves = inr went }
 
--- the pool in which the bytes lie is the file's
+-- the pool in which the bytes are placed is the file's
 pub own_pool : (h : KernelState) (by fd f at pool : ℕ) (mode : Mode) (bytes : List ℕ)
     → MayPut by fd (on.File f at mode) pool bytes h → pool_of_file h f ≡ pool
 own_pool h by fd f at pool mode bytes may = let r = bytes_over [] h.store in
@@ -240,7 +240,7 @@ own_pool h by fd f at pool mode bytes may = let r = bytes_over [] h.store in
 pub files_apart : (h : KernelState) → IsSound h → AreApart h.cache
 files_apart h sound = apart_of {h = holding_of h} (cache_sound h sound)
 
--- By what the descriptor is open on.
+-- By the object of the descriptor.
 
 pub puts_refused : (o : Option Descriptor) (pool count : ℕ) (h : KernelState) (x : Refusal)
     → PutsOn o pool count h (Err x) h

@@ -1,4 +1,4 @@
--- The extents of files change as the cache goes on: a system stays sound, and all but the bytes of its files stays.
+-- The extents of files change: a system stays sound, and all except the bytes of its files is unchanged.
 use Rattle.std.proofs.Common.{◌≡◌, ℕ, suc, ◌+◌, List, [], ◌∷◌, length, get_or, map, refl, sym, ap, ◌∙◌, subst, arith}
 use Rattle.std.specs.List.{AllByRecursion}
 use Rattle.std.proofs.Common.{Option, Some, None}
@@ -26,7 +26,7 @@ use Rattle.iol_kernel.proofs.State.FileLimits.{ends_weaker, with_files}
 use Rattle.iol_kernel.proofs.State.Sound.{AreHeld, domains_stay, objects_stay, view-stays}
 use Rattle.iol_kernel.proofs.State.Views.{pools-view}
 
--- What became of the pages and of the extents: holds came and went with the extents alone, and no file came or went.
+-- A change of pages and extents: only references of extents changed, and no file was added or removed.
 pub record Recaches (s t : Stored) (c d : Cached) : Type 0 where
   pub moves : Moves s t (held c.files) (held d.files)
   pub lists : SameLists s t
@@ -36,7 +36,7 @@ pub record Recaches (s t : Stored) (c d : Cached) : Type 0 where
   pub pools : (f : ℕ) → (file_in d.files f).pool ≡ (file_in c.files f).pool
   pub sound : cache.IsSound t d
 
--- Lists of files, told by number.
+-- Lists of files, by number.
 
 each_indexed : (P : CachedFile → Type 0) (fs : List CachedFile) → ((i : ℕ) → P (get_or fs i no_file))
     → AllByRecursion P fs
@@ -64,7 +64,7 @@ same_pools fs gs long same =
     pools_indexed fs gs long (λ i. ap (λ (x : CachedFile). x.pool) (sym (at_index gs i)) ∙ same (i + 1)
     ∙ ap (λ (x : CachedFile). x.pool) (at_index fs i))
 
--- what a descriptor is open on is there, whatever is in memory of files
+-- the object of a descriptor stays open, whichever extents files have
 ends_recached : (qs : Objects (List Slice)) (fs : List CachedFile) (x : Option Descriptor) → IsOpenEnd qs x
     → IsOpenEnd (record qs { cached = fs }) x
 ends_recached qs fs None e = tt
@@ -81,7 +81,7 @@ module _ (h : KernelState) (t : Stored) (d : Cached) (sound : IsSound h) (m : Re
   abbrev next : KernelState
   next = record h { store = t; cache = d }
 
-  -- with nothing in memory of files
+  -- the objects, without extents
   abbrev bare : Objects (List Slice)
   bare = record (objects_of h) { cached = [] }
 
@@ -132,7 +132,7 @@ module _ (h : KernelState) (t : Stored) (d : Cached) (sound : IsSound h) (m : Re
         cached = is_cached t d m.sound;
       }
 
-  -- all but the bytes of files is as it was
+  -- all except the bytes of files is unchanged
   pub recached_beside : (slots : List (List ℕ)) → with_slots slots next ≡ with_slots slots h
   unfolding with_slots read_of state_view
   recached_beside slots =
@@ -140,14 +140,14 @@ module _ (h : KernelState) (t : Stored) (d : Cached) (sound : IsSound h) (m : Re
       (pools-view (bytes_over [] t) h.domains h.store.pools t.pools bare m.lists
       ∙ view-stays h.store t m.moves.stays h.domains bare bare_held h.store.pools sound.domains bare_there [])
 
--- The bytes of files are what is read of them.
+-- The bytes of files are those that the reading gives.
 
 pub machine-slots : (stored : List (List ℕ)) (h : KernelState)
     → machine_of stored h ≡ with_slots (slots_read (bytes_over stored h.store) h.cache.files) h
 unfolding with_slots read_of state_view
 machine-slots stored h = refl
 
--- where these stay, all does
+-- if these are unchanged, so is the machine's state
 pub recached_same : (h : KernelState) (t : Stored) (d : Cached) (stored new : List (List ℕ)) → IsSound h
     → Recaches h.store t h.cache d
     → slots_read (bytes_over new t) d.files ≡ slots_read (bytes_over stored h.store) h.cache.files

@@ -1,4 +1,4 @@
--- What the store's faults mean for calls that write back.
+-- Faults of the store, in calls that write back.
 use Rattle.std.proofs.Common.{◌≡◌, ℕ, List, length, ap, sym, refl, subst, arith, true, inr, Option, None}
 use Rattle.std.specs.Prelude.{Result, Ok, Err, OnOk, OnErr, IfErr, MatchOption}
 use Rattle.iol_core.specs.NumberedLists.{is_numbered}
@@ -85,7 +85,7 @@ flush_steps h d x y (Err (Fault f)) sound m stored =
     (there h f stored sound (dirty_there h.cache.files f m.1.extent m.1.first), refl)
 flush_steps h d x y (Err z) sound m stored = absurd m
 
--- what was flushed, as the call answers it
+-- the flush, with the answer of the call
 module _ (h : KernelState) (d : Cached) (x y : Disk) (r : Result Flushed Refusal) {q : Result (Unit {0}) Refusal}
     (is : done_of r ≡ q) (m : Flushes h.store h.cache d x y r) where
   abbrev next : KernelState

@@ -1,4 +1,4 @@
--- The bytes of a file are copied out, and what was read is released.
+-- The bytes of a file are copied out, and the slices read are released.
 use Rattle.std.proofs.Common.{◌≡◌, ◌∙◌, ℕ, ◌+◌, ◌≤◌, List, [], ◌++◌, length, refl, sym, ap, subst, arith, Some, None}
 use Rattle.std.proofs.Common.{true, false}
 use Rattle.std.specs.Prelude.{Ok, Err}
@@ -78,7 +78,7 @@ module _ {x : FileRead} {h : KernelState} (disk : Disk) (m : Stored) (c : Cached
       mirrors = mirrors_stay after.slots c.files kept.files moves.stays kept_released.covered backed.mirrors;
     }
 
-    -- the bytes that were copied are what the machine reads
+    -- the copied bytes are those that the machine reads
     pub copied_as : first (reading.read (machine_of [] h) x.domain x.fd x.count).refusals ≡ None
         → after.honest ≡ disk.honest → (disk.honest ≡ true → after.slots ≡ disk.slots)
         → (IsBackedBy disk h → IsBacked after (over m c)) → (bytes : List ℕ) (ds : Domains)
@@ -98,7 +98,7 @@ module _ {x : FileRead} {h : KernelState} (disk : Disk) (m : Stored) (c : Cached
         subst (λ (ys : Domains). Serves (λ s. reading.read s x.domain x.fd x.count) disk h (Ok bytes) after
         (record h { store = t; domains = ys; cache = c })) (sym (moved ∙ ap (moved_on h.domains x) (sym long))) done
 
--- A read that was refused at once, or found no memory, has changed nothing.
+-- A read that a test refused, or that found no memory, changed nothing.
 
 pub copies_refused : {x : FileRead} {h : KernelState} → IsOpenAt h x → (disk : Disk) (y : Refusal)
     → first (read_tests (machine_of [] h) x.domain x.file x.mode false) ≡ Some y → IsBeforeRoom y

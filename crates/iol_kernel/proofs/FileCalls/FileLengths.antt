@@ -1,4 +1,4 @@
--- Where a file ends for the calls that ask for a length, over any store.
+-- The end of a file for the calls that ask for a length, over any store.
 use Rattle.std.proofs.Common.{◌≡◌, ℕ, ◌+◌, ◌<◌, ◌≤◌, Bool, true, false, [], length, Option, Some, None, sym, ap, subst}
 use Rattle.std.proofs.Common.{arith, ◌∙◌}
 use Rattle.std.specs.Prelude.{Result, nat_lt, if◌then◌else◌}
@@ -18,9 +18,9 @@ use Rattle.iol_kernel.specs.KernelState.{KernelState, machine_of}
 use Rattle.iol_kernel.specs.OpenDescriptors.{IsOpenOn}
 use Rattle.iol_kernel.specs.Readings.{bytes_over}
 
--- A word of what a live domain's descriptor is open on.
+-- Facts of the descriptor of a live domain.
 
--- that descriptor, where these are its domain and itself
+-- the descriptor, of a domain that is live or not
 abbrev if_live : Bool → Option Descriptor → Option Descriptor
 if_live live o = if live then o else None
 
@@ -32,7 +32,7 @@ held_as h d fd live o P is there p =
     (subst (λ (x : Option Descriptor). P (if_live live x)) (sym there) p)
 
 module _ (disk : Disk) (h : KernelState) (d fd : ℕ) where
-  -- a position in what is no file
+  -- a position in an object that is not a file
   seeks_none : {A : Type 0} (o : Option Descriptor) (at : ℕ) (r : Result A Refusal) → open_on o ≡ None
       → SeeksOn o at disk h r
   seeks_none None at r none = tt
@@ -57,7 +57,7 @@ module _ (disk : Disk) (h : KernelState) (d fd : ℕ) where
         held_as h d fd true (Some (on.File f was mode)) (λ x. EndsOn x end disk h) (held.live (bytes_over [] h.store))
         (held.from (bytes_over [] h.store)) ends
 
--- Whether the next slot is told to be too long.
+-- Whether the store reports that the next slot is too long.
 
 pub no_next : (disk : Disk) (h : KernelState) → MAX_FILES ≤ length h.files → false ≡ is_next_long disk h
 no_next disk h full =

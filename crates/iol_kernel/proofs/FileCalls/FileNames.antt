@@ -41,7 +41,7 @@ pub files-read_of : (f : Reading) (h : KernelState) → (read_of f h).files ≡ 
 unfolding read_of state_view
 files-read_of f h = refl
 
--- one of a list passes just where there is a first that does
+-- an element passes exactly if the index of the first that passes is below the length
 any-first : {A : Type 0} (p : A → Bool) (xs : List A) → list_any p xs ≡ nat_lt (position_or_len p xs) (length xs)
 any-first p [] = refl
 any-first p (x ∷ xs) = of (p x) (any-first p xs)
@@ -69,7 +69,7 @@ has-file_called f h name =
 
 pub ruleset file_rules = (files-read_of)
 
--- What the next slot has.
+-- The bytes in the next slot.
 
 abbrev Files : Type 0
 Files = List CachedFile
@@ -132,7 +132,7 @@ next_too_long disk h len filed few is honest f stored =
               grind (arith, nat_tests, k, is)
         ]
 
--- past the last slot there is nothing
+-- after the last slot there are no bytes
 pub last_not_too_long : (h : KernelState) (f : Reading) → MAX_FILES ≤ length h.files
     → false ≡ nat_lt MAX_FILE_BYTES (length (machine.content (read_of f h) (length (read_of f h).files + 1)))
 last_not_too_long h f full =
@@ -140,7 +140,7 @@ last_not_too_long h f full =
     ∙ ap (λ (fs : List machine.File). nat_lt MAX_FILE_BYTES (length (machine.content (read_of f h) (length fs + 1))))
     (sym (files-read_of f h))
 
--- A new file, of which nothing is in memory.
+-- A new file, without extents.
 
 extents-push : (fs : Files) (p n : ℕ) → extents_in (fs ++ new_file p ∷ []) n ≡ extents_in fs n
 unfolding file_in
@@ -292,7 +292,7 @@ module _ (h : KernelState) (name : List ℕ) (p : ℕ) (c : Cached) (sound : IsS
     sound = named-sound;
   }
 
--- the tables that have it
+-- the tables with the new name
 pub named_as : (h : KernelState) (d n p : ℕ) (name : List ℕ) (files : List machine.File) (c : Cached) → IsSound h
     → n ≡ length h.cache.files + 1
     → (let x : machine.File = record { name = name; pool = p } in files ≡ h.files ++ x ∷ [])
@@ -303,7 +303,7 @@ named_as h d n p name files c sound number listed added orders kept =
     subst (λ (fs : List machine.File). AddsFile (λ s. calls.file_new s d name p) h n
     (record h { files = fs; cache = c })) (sym listed) (named_answers h name p c sound added kept d n number orders)
 
--- what holds in the cache that the kernel has
+-- the cache of a sound kernel is sound
 pub cache_sound : (h : KernelState) → IsSound h → cache.IsSound h.store h.cache
 unfolding IsCached
 cache_sound h sound = sound.cached

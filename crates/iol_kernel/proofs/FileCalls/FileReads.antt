@@ -64,7 +64,7 @@ use Rattle.iol_kernel.proofs.State.Views.{numbered_or-map}
 abbrev Domains : Type 0
 Domains = List (Domain (List Slice))
 
--- What the two calls mean where the descriptor is a file's.
+-- The meaning of the two calls for a descriptor of a file.
 
 module _ (s : State) (d fd f at n : ℕ) (mode : Mode) (from : machine.descriptor s d fd ≡ Some (on.File f at mode)) where
   -- the bytes of the file from the position on
@@ -92,13 +92,13 @@ module _ (s : State) (d fd f at n : ℕ) (mode : Mode) (from : machine.descripto
       → reading.read_late s (machine.descriptor s d fd) x
   late_read x late = subst (λ (o : Option Descriptor). reading.read_late s o x) (sym from) late
 
--- a descriptor is set to what it is
+-- a descriptor is set to an equal one
 pub set_to : (ds : Domains) (d fd : ℕ) {es : Domains} {o p : Descriptor}
     → es ≡ with_fds_in ds d (slice_set (fds_in ds d) fd (Some o)) → o ≡ p
     → es ≡ with_fds_in ds d (slice_set (fds_in ds d) fd (Some p))
 set_to ds d fd set is = set ∙ ap (λ (x : Descriptor). with_fds_in ds d (slice_set (fds_in ds d) fd (Some x))) is
 
--- What the machine has, whatever bytes files have.
+-- The machine's state, for any bytes of files.
 
 module _ (slots : List (List ℕ)) (h : KernelState) where
   descriptor-with_slots : (d fd : ℕ)
@@ -167,7 +167,7 @@ reported_there f at n bytes some short =
     ∙ ap (take n) (drop-append_seam (replicate at 0) bytes)
     ∙ take_all n bytes short
 
--- A descriptor on a file moves on.
+-- The position of a file's descriptor moves.
 
 same_end-file : (e : Descriptor) (f at : ℕ) (mode : Mode) → same_end e (on.File f at mode) ≡ 0
 same_end-file (on.ReadEnd p) f at mode = refl
@@ -187,7 +187,7 @@ file_ends e xs fd f at mode was is = elim (cases_lt fd (length xs)) [
     no : ◌≡◌ {A = Option Descriptor} None (Some was) → ⊥
     no e = cc
 
--- A refusal that changes nothing, whatever bytes files have.
+-- A refusal that changes nothing, for any bytes of files.
 pub refuses : {A : Type 0} (m : State → Meaning A) (h k : KernelState) (y : Refusal) → IsSound h
     → ((slots : List (List ℕ)) → MatchOption (first (m (with_slots slots h)).refusals) ((m (with_slots slots h)).Late y)
     (λ z. y ≡ z)) → k ≡ h → (disk : Disk) → Serves m disk h (Err y) disk k
@@ -200,7 +200,7 @@ refused_late : {A : Type 0} (m : Meaning A) (y : Refusal) → first m.refusals �
     → MatchOption (first m.refusals) (m.Late y) (λ z. y ≡ z)
 refused_late m y passed late = subst (λ (o : Option Refusal). MatchOption o (m.Late y) (λ z. y ≡ z)) (sym passed) late
 
--- A domain's row, where its descriptor is open on a file.
+-- A domain's row, if its descriptor is open on a file.
 
 pub open_at : (h : KernelState) (d fd : ℕ) (found : OpenFile) (n : ℕ) → IsSound h
     → ((f : Reading) → machine.is_live (read_of f h) d ≡ true)
@@ -217,7 +217,7 @@ row_holds {x} {h} held = sym (descriptor-read_of (bytes_over [] h.store) h x.dom
     ∙ held.is.from (bytes_over [] h.store)
 
 module _ {x : FileRead} {h : KernelState} (held : IsOpenAt h x) where
-  -- in a table that is as it was
+  -- in an unchanged table
   pub live_there : {ds : Domains} → ds ≡ h.domains → (domain_in ds x.domain).live ≡ true
   live_there same = open_row_kept held.is same
 
@@ -275,12 +275,12 @@ module _ {x : FileRead} {h : KernelState} (held : IsOpenAt h x) where
       ∙ ap (λ (xs : List (Option Descriptor)). fds.with_fds (with_slots slots h) x.domain
       (slice_set xs x.fd (Some (on.File x.file (x.at + len) x.mode)))) (sym (fds_of-with_slots slots h x.domain))
 
-  -- its descriptor, whatever bytes files have
+  -- its descriptor, for any bytes of files
   from_file : (slots : List (List ℕ))
       → machine.descriptor (with_slots slots h) x.domain x.fd ≡ Some (on.File x.file x.at x.mode)
   from_file slots = descriptor-with_slots slots h x.domain x.fd ∙ row_holds held
 
-  -- the text that lies there is what is asked, where the file has its bytes at the position
+  -- the text is the requested one, if the file has its bytes at the position
   asked_there : (slots : List (List ℕ)) (t : Text) → t ≡ labelled (pool_read h x) (bytes_of t)
       → take x.count (drop x.at (machine.content (with_slots slots h) x.file)) ≡ bytes_of t
       → t ≡ labelled (machine.file (with_slots slots h) x.file).pool
@@ -301,7 +301,7 @@ module _ {x : FileRead} {h : KernelState} (held : IsOpenAt h x) where
       late_read (with_slots slots h) x.domain x.fd x.file x.at x.count x.mode (from_file slots) y
       (subst (λ p. WantOfRoomOrFault p x.file y) (sym (pool-with_slots slots h x.file held.is.sound.filed)) late)
 
-  -- a late refusal that has changed nothing
+  -- a late refusal that changed nothing
   untouched : {A : Type 0} (m : State → Meaning A) (k : KernelState) (y : Refusal)
       → ((slots : List (List ℕ)) → first (m (with_slots slots h)).refusals ≡ None)
       → ((slots : List (List ℕ)) → (m (with_slots slots h)).Late y) → k ≡ h → (disk : Disk)
@@ -325,7 +325,7 @@ module _ {x : FileRead} {h : KernelState} (held : IsOpenAt h x) where
       untouched (λ s. reading.read s x.domain x.fd x.count) k y (λ slots. read-tests slots h x.domain x.fd x.count
       ∙ passed) (λ slots. late_at slots y late)
 
-  -- what stays of the domain's row
+  -- of the domain's row only the descriptors change
   row_moved : (len : ℕ) → domain_in (moved_on h.domains x len) x.domain ≡ record (domain_in h.domains x.domain) {
     fds =
         moved_fds len;
@@ -333,7 +333,7 @@ module _ {x : FileRead} {h : KernelState} (held : IsOpenAt h x) where
   row_moved len = domain_in-with_same h.domains x.domain (record (domain_in h.domains x.domain) { fds = moved_fds len })
       (row_live held)
 
-  -- the position moved on, in a table that was as it was
+  -- the position moved, in a table that was unchanged before
   module _ {ds es : Domains} (len : ℕ) (same : ds ≡ h.domains) (set : es ≡ moved_on ds x len) where
     pub moved_here : es ≡ moved_on h.domains x len
     moved_here = set ∙ ap (λ (ys : Domains). moved_on ys x len) same
@@ -359,7 +359,7 @@ pooled_text s p xs all =
     (own_places p xs (All-weaker (λ (y : Slice). y.hold.pool ≡ p) (λ (y : Slice). (y.hold.pool == p) ≡ true)
     (λ y e. grind (arith, nat_tests, e)) xs all.each))
 
--- A file was read, or not, and the cache went on.
+-- The state after a read of a file, with the store t and the cache c.
 
 module _ {x : FileRead} {h : KernelState} (disk after : Disk) (t : Stored) (c : Cached) (held : IsOpenAt h x)
     (kept : cache.IsSound t c) (honest : after.honest ≡ disk.honest) (slots_same : disk.honest ≡ true
@@ -371,14 +371,14 @@ module _ {x : FileRead} {h : KernelState} (disk after : Disk) (t : Stored) (c : 
   unfolding read_of state_view
   own_moved len = refl
 
-  -- what an honest store gives lies in the machine's file
+  -- the bytes of an honest store are those of the machine's file
   own_have : (bytes : List ℕ) → bytes ≡ bytes_read h.store disk.slots h.cache x.file x.at x.count
       → take x.count (drop x.at (machine.content (with_slots own h) x.file)) ≡ bytes
   own_have bytes is =
       let here = slot_here held in
       ap (λ b. take x.count (drop x.at b)) (slot_bytes disk.slots h x.file here.0 here.1) ∙ sym is
 
-  -- from steps with any bytes of files
+  -- from a step with the machine's bytes of files, and a step with some bytes
   serve : {A : Type 0} (m : State → Meaning A) (r : Result A Refusal) (k : KernelState) (some : List (List ℕ))
       → (IsBackedBy disk h → machine_of after.slots k ≡ with_slots own k)
       → (IsBackedBy disk h → Step (m (with_slots own h)) (with_slots own h) r (with_slots own k))
@@ -428,7 +428,7 @@ module _ {x : FileRead} {h : KernelState} (disk after : Disk) (t : Stored) (c : 
         refused (λ s. reading.read s x.domain x.fd x.count) y (λ slots. read-tests slots h x.domain x.fd x.count
         ∙ passed) (λ slots. late_at held slots y late)
 
-    -- in a table that is as it was
+    -- in an unchanged table
     pub refused_iol_read : (ds : Domains) (y : Refusal) → ds ≡ h.domains
         → first (reading.iol_read (machine_of [] h) x.domain x.fd x.count).refusals ≡ None
         → WantOfRoomOrFault (pool_read h x) x.file y
@@ -560,7 +560,7 @@ module _ {x : FileRead} {h : KernelState} (disk after : Disk) (t : Stored) (c : 
           (few_on few)
           (omega (arith, fits)) readable) goes.moves.stays
 
-      -- in a table that has it so
+      -- in an equal table
       pub given_as : (ds : Domains) (a : ℕ) → ds ≡ with_agg_in (moved_on h.domains x (byte_len xs)) x.domain xs
           → a ≡ (domain_in h.domains x.domain).next_agg
           → first (reading.iol_read (machine_of [] h) x.domain x.fd x.count).refusals ≡ None

@@ -25,7 +25,7 @@ has_name name k = bytes_eq name k.items
 turned : (name : List ℕ) (k : Vec ℕ) → has_name name k ≡ bytes_eq k.items name
 turned name k = nat_list_eq_equiv.symm name k.items
 
--- a name is found where it lies
+-- the first key that is the name has the index of the first file of that name
 pub position-named : (name : List ℕ) (es : Entries)
     → position (has_name name) (keys_of es) ≡ position (λ f. bytes_eq f.name name) (files_of es)
 position-named name es = λ i. cond (nat_lt (place es i) (count i)) (Some (place es i)) None
@@ -57,7 +57,7 @@ pub new_name : (name : Vec ℕ) (es : Entries) → list_any (λ f. bytes_eq f.na
     → lookup (has_name name.items) es ≡ None
 new_name name es new = none_from (lookup (has_name name.items) es) (has-named name.items es ∙ new)
 
--- Pools that files lie in.
+-- The pools of files.
 
 used-key : (used : List ℕ) (p q : ℕ)
     → list_any (nat_eq q) (insert_key nat_eq used p) ≡ (list_any (nat_eq q) used || (p == q))

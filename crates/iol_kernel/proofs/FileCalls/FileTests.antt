@@ -1,4 +1,4 @@
--- What a read of a file refuses before it asks the store.
+-- The refusals of a read of a file before it asks the store.
 use Rattle.std.proofs.Common.{◌≡◌, ℕ, [], ◌∷◌, ap, ◌∙◌, refl, sym, subst, Option, Some, None, Bool, true, false}
 use Rattle.std.specs.Prelude.{Err, MatchOption, is_none, not, nat_lt, ◌&&◌, if◌then◌else◌}
 use Rattle.iol_core.specs.State as machine
@@ -20,7 +20,7 @@ use Rattle.iol_kernel.specs.KernelState.{KernelState, IsSound, machine_of, read_
 use Rattle.iol_kernel.specs.Readings.{Reading, bytes_over}
 use Rattle.iol_kernel.proofs.FileCalls.FileReads.{iol_read-tests, read-tests, refuses}
 
--- of a file nothing has to be waited for
+-- a read of a file never has to wait
 never : (b : Bool) → (b && true && false) ≡ false
 never true = refl
 never false = refl
@@ -92,7 +92,7 @@ read_few s d f mode =
     of true true denied none = absurd (cc none)
     of false true denied none = absurd (cc none)
 
--- A read that is refused so, and changes nothing.
+-- A read that one of these tests refuses, and that changes nothing.
 
 refused_now : {A : Type 0} (m : Meaning A) (y : Refusal) → first m.refusals ≡ Some y
     → MatchOption (first m.refusals) (m.Late y) (λ z. y ≡ z)
@@ -112,7 +112,7 @@ refuses_read h k d fd n y sound is =
     refuses (λ s. reading.read s d fd n) h k y sound
     (λ slots. refused_now (reading.read (with_slots slots h) d fd n) y (read-tests slots h d fd n ∙ is))
 
--- what is open on a file is no queue
+-- a descriptor on a file is not on a queue
 
 on_file : (live : Bool) (o : Option Descriptor) (f at : ℕ) (mode : Mode) → live ≡ true → o ≡ Some (on.File f at mode)
     → open_on (if live then o else None) ≡ None → ⊥

@@ -1,4 +1,4 @@
--- What a write to a file means over each store, and what it leaves where it is refused late.
+-- A write to a file: its meaning over each store, and the state after a late refusal.
 use Rattle.std.proofs.Common.{inl, inr, ◌≡◌, ℕ, ◌+◌, ◌<◌, ◌≤◌, List, [], length, refl, sym, ap, ◌∙◌, subst, arith, Some}
 use Rattle.std.proofs.Common.{None, true}
 use Rattle.std.specs.Prelude.{MatchOption, Ok, Err}
@@ -36,7 +36,7 @@ use Rattle.iol_kernel.proofs.State.ReadOf.{descriptor-read_of}
 use Rattle.iol_kernel.proofs.FileCalls.ExtentChanges.{Recaches, machine-slots, recached_beside, recached_same}
 use Rattle.iol_kernel.proofs.FileCalls.ExtentChanges.{recached_sound}
 
--- Files and their pools are as they were.
+-- Files and their pools are unchanged.
 
 abbrev pub SamePools : (old new : Holding) → Type 0
 SamePools old new = (length new.cache.files ≡ length old.cache.files)
@@ -69,14 +69,14 @@ written_pools f at source old new there x =
       ] ∙ before.1 g,
     )
 
--- The bytes of a file are written over, and those of others stay.
+-- The bytes of a file are overwritten, and those of others are unchanged.
 pub record Puts (f at : ℕ) (bytes : List ℕ) (old new : Holding) : Type 0 where
   pub written : (stored : List (List ℕ)) → Mirrors old.store stored old.cache.files
       → at ≤ length (bytes_in old stored f) → bytes_in new stored f ≡ overwritten at bytes (bytes_in old stored f)
   pub others : KeepsOthers f old new
   pub mirrors : KeepsMirrors old new
 
--- under an honest store it goes on so
+-- an honest store still backs the cache
 pub backed_kept : (disk : Disk) (old new : Holding) → length new.cache.files ≡ length old.cache.files
     → KeepsMirrors old new → IsBacked disk old → IsBacked disk new
 backed_kept disk old new long mirrors backed = record {
@@ -165,7 +165,7 @@ module _ (m : State → Meaning ℕ) (h k : KernelState) (t : Stored) (d : Cache
       stays = re.moves.stays;
     })
 
--- a late refusal: extents may have gone, and files have their bytes
+-- a late refusal: extents may have been evicted, and files keep their bytes
 pub late_serves : (m : State → Meaning ℕ) (h k : KernelState) (t : Stored) (d : Cached) (x : Refusal) → IsSound h
     → Recaches h.store t h.cache d → KeepsFiles (holding_of h) (record { store = t; cache = d })
     → KeepsMirrors (holding_of h) (record { store = t; cache = d })

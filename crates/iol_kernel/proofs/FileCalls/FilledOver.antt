@@ -1,5 +1,4 @@
--- New bytes are placed in a file's pool and written over those of the file, and what was placed is released: the steps,
--- one after another.
+-- New bytes are placed in a file's pool, written over those of the file, and released: the steps, one after another.
 use Rattle.std.proofs.Common.{inl, inr, ◌≡◌, ℕ, ◌<◌, ◌≤◌, ◌++◌, ◌^◌, List, [], length, map, refl, sym, ap, ◌∙◌, subst}
 use Rattle.std.proofs.Common.{arith, true}
 use Rattle.std.proofs.lemmas.Bool.{cases_lt}
@@ -38,7 +37,7 @@ use Rattle.iol_kernel.proofs.FileCalls.ExtentChanges.{Recaches}
 use Rattle.iol_kernel.proofs.State.Slots.{uses_few}
 use Rattle.iol_kernel.proofs.State.Uses.{all_few}
 
--- Bytes were placed, and nobody but the caller holds them.
+-- Bytes were placed, and only the caller holds them.
 module _ (h : KernelState) (s : Stored) (xs : List Slice) (sound : IsSound h) (fills : Moves h.store s [] (bufs_of xs))
     (pools : s.pools ≡ h.store.pools) (pages : page_count s.arena ≡ page_count h.store.arena) where
   abbrev c : Cached
@@ -84,7 +83,7 @@ module _ (h : KernelState) (s : Stored) (xs : List Slice) (sound : IsSound h) (f
       }) fills
       (ap (map pool_meant) pools) pages
 
-  -- whatever becomes of files
+  -- whichever extents change
   pub still_covers : {t : Stored} {left : List BufId} → Moves s t (held h.cache.files) left → Covers t (bufs_of xs)
   still_covers moves =
       record {

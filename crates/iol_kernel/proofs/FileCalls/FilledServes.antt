@@ -1,4 +1,4 @@
--- What a copying write to a file means, once its bytes lie in the file's pool.
+-- The meaning of a copying write to a file, once its bytes are in the file's pool.
 use Rattle.std.proofs.Common.{◌≡◌, ℕ, ◌+◌, ◌≤◌, true, List, [], length, take, refl, sym, ap, ◌∙◌, subst, arith, Option}
 use Rattle.std.proofs.Common.{Some, None}
 use Rattle.std.specs.Prelude.{Result, Ok, Err, MatchOption, OnOk}
@@ -46,7 +46,7 @@ pub filled_len : (s : Stored) (xs : List Slice) (pool : ℕ) (bytes : List ℕ) 
 filled_len s xs pool bytes text = sym (length-read (bytes_over [] s).at xs) ∙ ap length text
     ∙ length-map bytes (λ b. (b, pool))
 
--- What the call means of a file.
+-- The meaning of the call for a file.
 
 module _ (h : KernelState) (by fd f at pool : ℕ) (mode : Mode) (bytes : List ℕ)
     (may : MayPut by fd (on.File f at mode) pool bytes h) where

@@ -1,4 +1,4 @@
--- What lies over the bytes of files, where clean extents of one pool may have given way.
+-- The extents over the bytes of files, after clean extents of one pool may have been evicted.
 use Rattle.std.proofs.Common.{inl, inr, ◌≡◌, ◌⊎◌, ◌∙◌, ℕ, zero, suc, ◌+◌, ◌<◌, ◌≤◌, true, false, List, [], ◌∷◌, length}
 use Rattle.std.proofs.Common.{Option, None, Some, refl, sym, ap, subst}
 use Rattle.std.proofs.lemmas.Bool.{cases_eq, cases_lt}
@@ -33,7 +33,7 @@ use Rattle.iol_kernel.specs.KeptCover.{GaveWay, KeepsBeside, KeepsUnless, LacksP
 use Rattle.iol_kernel.specs.KernelState.{KernelState}
 use Rattle.iol_kernel.specs.Room.{MakesRoom}
 
--- Evictions leave the files of other pools.
+-- Evictions leave the files of other pools unchanged.
 
 one_other : (f at : ℕ) (old new : Holding) → Evicts f at old new → (g : ℕ) → (g ≡ f → ⊥)
     → file_in new.cache.files g ≡ file_in old.cache.files g
@@ -55,7 +55,7 @@ evicted_other : (p : ℕ) (w : Option ℕ) (old new : Holding) → EvictsAll p w
 evicted_other p w old new x g ne =
     ap (λ (y : CachedFile). y.extents.extents) (some_other p w x.places old new x.each g ne)
 
--- and extents one after another
+-- and after evictions the extents of a file are still apart
 
 one_apart : (f at : ℕ) (old new : Holding) → Evicts f at old new → AreApart old.cache → AreApart new.cache
 one_apart f at old new gone apart = record {
@@ -99,7 +99,7 @@ pub drop_keeps : (n : ℕ) (old new : Holding) → EvictsPools n old new → Are
     → KeepsDirty old.cache new.cache
 drop_keeps n old new is apart = (pools_keep n old new is apart).0
 
--- Where enough pages are free nothing gives way, and else only what is clean, in one pool.
+-- If enough pages are free no extent is evicted, and otherwise only clean ones, of one pool.
 
 module _ (p free wanted : ℕ) (Lacks : Type 0) (old new : Cached) (lacks : free < wanted → Lacks) (others : (g : ℕ)
     → ((file_in old.files g).pool ≡ p → ⊥) → extents_in new.files g ≡ extents_in old.files g) where
@@ -131,7 +131,7 @@ pub beside_same : (f at n p : ℕ) (Lacks : Type 0) (old new : Cached) → new �
 beside_same f at n p Lacks old new same =
     record { each = λ g i c out is. inl (ap (λ (x : Cached). cover (extents_in x.files g) i) same ∙ is) }
 
--- Room that is made.
+-- Room was made.
 pub room_keeps : (p wanted : ℕ) (h k : KernelState) → MakesRoom p wanted h k
     → KeepsUnless p (LacksPages h p wanted) h.cache k.cache
 room_keeps p wanted h k room =
@@ -164,7 +164,7 @@ module _ (f from to : ℕ) (old hit : Holding) (pins : List Slice) (gaps : List 
       (λ (ps : List Pool). length (free_pages old.store.arena (pool_in ps (file_in old.cache.files f).pool).chunks))
       x.shares.pools
 
-  -- what goes for its gaps goes from its pool
+  -- the extents that are evicted for its gaps are of its pool
   hit_other : (mid : Holding) → EvictsAll (file_in hit.cache.files f).pool (Some (gap_pages gaps)) hit mid → (g : ℕ)
       → ((file_in old.cache.files g).pool ≡ (file_in old.cache.files f).pool → ⊥)
       → extents_in mid.cache.files g ≡ extents_in old.cache.files g
@@ -308,7 +308,7 @@ module _ (h : KernelState) (f at : ℕ) (source : List Slice) (new : Holding) (f
 
 -- One after the other.
 
--- pages were wanting nowhere, so all stays
+-- no pages were lacking, so all cells are unchanged
 pub beside_none : (f at n m p q : ℕ) (Lacks : Type 0) (old new : Cached) → n ≡ m → (Lacks → ⊥)
     → KeepsBeside f at n p Lacks old new → KeepsBeside f at m q ⊥ old new
 beside_none f at n m p q Lacks old new same none keeps = record {

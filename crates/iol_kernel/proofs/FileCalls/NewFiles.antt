@@ -1,4 +1,4 @@
--- The call that names a file: what it does with an honest store, and over any.
+-- The call that names a file: its step with an honest store, and over any store.
 use Rattle.std.proofs.Common.{◌≡◌, ℕ, ◌+◌, ◌<◌, ◌≤◌, ◌∙◌, Bool, true, false, List, [], ◌∷◌, length, Option, Some, None}
 use Rattle.std.proofs.Common.{refl, sym, ap, subst, arith, inl, inr}
 use Rattle.std.specs.Prelude.{MatchOption, Result, Ok, Err, nat_lt, nat_le, not, ◌||◌, ◌==◌, is_some}
@@ -23,7 +23,7 @@ use Rattle.iol_kernel.proofs.State.Beside.{even, length-even}
 use Rattle.iol_kernel.proofs.FileCalls.FileNames.{files-read_of, last-slot, next-slot}
 use Rattle.iol_kernel.proofs.State.CacheUntouched.{steps_beside}
 
--- Whether the next slot has more bytes than a file may have is told of some bytes there.
+-- Whether the next slot has more bytes than a file may have, for some bytes of the store.
 
 next-length : (f : Reading) (h : KernelState) (stored : List (List ℕ)) → AreFiled h.files h.cache.files
     → length h.files < MAX_FILES → f.stored ≡ stored
@@ -69,7 +69,7 @@ reports_next h false filed few = record {
   ]));
 }
 
--- What a call tested that is not refused.
+-- The tests of a call that is not refused.
 
 tests : (a b c d e f g h : Bool) (p : ℕ)
     → first ((NoDomain when a) ∷ (NoPool when b) ∷ (WrongMode when c) ∷ (BadRange when d) ∷ (TooLong when e)
@@ -127,7 +127,7 @@ unnamed disk m h k x stored step aside roomy same sound =
     inside : (y z : Refusal) → ◌≡◌ {A = Result ℕ Refusal} (Err y) (Err z) → y ≡ z
     inside y z e = cc
 
--- by the first refusal that holds
+-- by the first refusal that applies
 refused_first : (m : State → Meaning ℕ) (s : State) (x : Refusal) → first (m s).refusals ≡ Some x
     → Step (m s) s (Err x) s
 refused_first m s x is = (subst (λ (o : Option Refusal). MatchOption o ((m s).Late x) (λ y. x ≡ y)) (sym is) refl, refl)
@@ -146,14 +146,14 @@ refused_always disk m h x is roomy sound =
     unnamed disk m h h x [] (λ honest. refused_first m (machine_of disk.slots h) x (is (bytes_over disk.slots h.store)))
     (refused_first m (machine_of [] h) x (is (bytes_over [] h.store))) roomy refl sound
 
--- By what is told of the next slot: with the bytes that an honest store has, and with some bytes there.
+-- By the report about the next slot: with the bytes of an honest store, and with some bytes.
 
 module _ (disk : Disk) (h : KernelState) (d p : ℕ) (name : List ℕ) {long : Bool} (next : AsksNext disk h long)
     (sound : IsSound h) where
   abbrev m : State → Meaning ℕ
   m s = calls.file_new s d name p
 
-  -- what the tests come to
+  -- the tests give this result, for each reading that agrees with the report
   abbrev Comes : Option Refusal → Type 0
   Comes o = (f : Reading)
       → long ≡ nat_lt MAX_FILE_BYTES (length (machine.content (read_of f h) (length (read_of f h).files + 1)))
@@ -171,14 +171,14 @@ module _ (disk : Disk) (h : KernelState) (d p : ℕ) (name : List ℕ) {long : B
       unnamed disk m h h x next.reported.stored (λ i. refused_first m (machine_of disk.slots h) x (here (Some x) is i))
       (refused_first m (machine_of next.reported.stored h) x (aside (Some x) is)) roomy refl sound
 
-  -- and the late one
+  -- and the late refusal
   pub refused_memory : (k : KernelState) → Comes None → k ≡ h → Names disk m h (Err Memory) k
   refused_memory k is same =
       unnamed disk m h k Memory next.reported.stored
       (λ i. refused_late m (machine_of disk.slots h) Memory (here None is i) tt)
       (refused_late m (machine_of next.reported.stored h) Memory (aside None is) tt) (λ q e. cc e) same sound
 
-  -- a file is there
+  -- the file was added
   pub names : (k : KernelState) (n : ℕ) → Comes None → AddsFile m h n k → Names disk m h (Ok n) k
   names k n is one = record {
     step = λ i. stepped disk.slots (here None is i);

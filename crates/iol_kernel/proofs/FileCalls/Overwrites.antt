@@ -1,4 +1,5 @@
--- An aggregate is written over the bytes of a file: what the call means and leaves, by what the cache promises.
+-- An aggregate is written over the bytes of a file: the meaning of the call and its effects, from the contract of the
+-- cache.
 use Rattle.std.proofs.Common.{inl, inr, ◌≡◌, ℕ, ◌+◌, ◌<◌, ◌≤◌, ◌++◌, ◌^◌, List, [], length, take, refl, sym, ap, ◌∙◌}
 use Rattle.std.proofs.Common.{subst, arith, Option, Some, None, true}
 use Rattle.std.specs.Prelude.{Result, Ok, Err}
@@ -59,7 +60,7 @@ use Rattle.iol_kernel.proofs.AggregateCalls.Slices.{slices_found}
 use Rattle.iol_kernel.proofs.State.Uses.{all_few, uses-without_agg}
 use Rattle.iol_kernel.proofs.State.Views.{numbered_or-map}
 
--- What the cache asks of an aggregate that is written.
+-- The conditions of the cache for an aggregate that is written.
 
 pub agg_beside : (h : KernelState) (d a : ℕ) (xs : List Slice) → IsSound h → (domain_in h.domains d).live ≡ true
     → Some xs ≡ agg_in h.domains d a → Covers h.store (held h.cache.files ++ bufs_of xs)
@@ -94,7 +95,7 @@ pool-file r h f sound =
     ∙ ap (λ ps. numbered_or ps f 0) (sym sound.filed)
     ∙ numbered_or-map (λ (x : CachedFile). x.pool) h.cache.files f no_file
 
--- a refusal before anything was done
+-- a refusal before any effect
 pub refused_leaves : (h : KernelState) (f at : ℕ) (xs : List Slice) (x : Refusal)
     → ((p : ℕ) → ◌≡◌ {A = Result ℕ Refusal} (Err x) (Err (NoRoom p)) → ⊥) → WritesOver {A = ℕ} f at xs h (Err x) h
 refused_leaves h f at xs x roomy = record {
@@ -114,7 +115,7 @@ refused_leaves h f at xs x roomy = record {
   leaves = inl refl;
 }
 
--- by what the descriptor is open on
+-- by the object of the descriptor
 
 pub refused_on : (d fd a : ℕ) (h : KernelState) (x : Refusal) (o : Option Descriptor)
     → CarriesOut (λ s. writing.iol_write s d fd a) h (Err x) h → WritesOn d fd a o h (Err x) h

@@ -39,7 +39,7 @@ use Rattle.iol_kernel.proofs.State.ReadOf.{descriptor-read_of, fds-read_of, live
 use Rattle.iol_kernel.proofs.State.Sound.{each-set, ends_open}
 use Rattle.iol_kernel.proofs.State.Uses.{Domains}
 
--- what is open on a file
+-- a descriptor on a file
 pub open_file : {h : KernelState} {d fd f at : ℕ} {mode : Mode} → IsOpenOn h d fd (on.File f at mode)
     → IsOnFile h d fd f at mode
 open_file {h} {d} {fd} {f} {at} {mode} held =
@@ -47,7 +47,7 @@ open_file {h} {d} {fd} {f} {at} {mode} held =
     end_held (bytes_over [] h.store) h d fd (on.File f at mode) held.sound (held.from (bytes_over [] h.store)) in
     record { held = held; there = is.0; within = is.1 }
 
--- What the two calls refuse, by what they look at.
+-- The refusals of the two calls, by the domain and the descriptor.
 
 abbrev on_file : Option Descriptor → ℕ
 on_file o = unwrap_or (option_map (λ x. x.0) (open_on o)) 0
@@ -79,7 +79,7 @@ length-first s d fd live o is there =
     (λ (p : Option Descriptor). first ((NoDomain when not live) ∷ (BadFd when is_none p)
     ∷ (WrongMode when is_none (open_on p)) ∷ [])) there
 
--- what is open on no file
+-- a descriptor on an object that is not a file
 pub wrong_kind : (s : State) (d fd : ℕ) (x : Descriptor) → machine.is_live s d ≡ true
     → machine.descriptor s d fd ≡ Some x → ((f was : ℕ) (mode : Mode) → x ≡ on.File f was mode → ⊥)
     → first (calls.file_length s d fd).refusals ≡ Some WrongMode
@@ -93,11 +93,11 @@ wrong_kind s d fd x live there differs = length-first s d fd true (Some x) live 
     of (on.WriteEnd p) differs = refl
     of (on.Connection c) differs = refl
 
--- a call whose first refusal is known is refused so
+-- the first refusal of a call is its result
 refuses : {A : Type 0} (m : Meaning A) (s : State) (x : Refusal) → first m.refusals ≡ Some x → Step m s (Err x) s
 refuses m s x is = (subst (λ (o : Option Refusal). MatchOption o (m.Late x) (λ y. x ≡ y)) (sym is) refl, refl)
 
--- Refusals of a descriptor that is open on no file. They do not ask for a length.
+-- Refusals of a descriptor on an object that is not a file. They do not ask for a length.
 
 refused_more : (a b c e : Option Refusal) (x : Refusal) → first (a ∷ b ∷ c ∷ []) ≡ Some x
     → first (a ∷ b ∷ c ∷ e ∷ []) ≡ Some x
@@ -172,7 +172,7 @@ module _ (disk : Disk) (h : KernelState) (d fd : ℕ) (x : Refusal) (sound : IsS
       serves_refused (λ s. calls.fsync s d fd) disk h x
       (λ slots. refuses (calls.fsync (with_slots slots h) d fd) (with_slots slots h) x (refused_over slots)) sound
 
--- A descriptor on a file that is so long.
+-- A descriptor on a file of a known length.
 
 beyond : (n at : ℕ) → n < at → first ((BadRange when nat_lt n at) ∷ []) ≡ Some BadRange
 beyond n at lt = let b : nat_lt n at ≡ true = grind (arith, nat_tests, lt) in ap (λ b. first ((BadRange when b) ∷ [])) b
@@ -196,7 +196,7 @@ module _ (disk : Disk) (h : KernelState) (d fd f was len : ℕ) (mode : Mode)
   is_open : IsOpenEnd (objects_of h) (Some (on.File f was mode))
   is_open = end_held (bytes_over [] h.store) h d fd (on.File f was mode) sound there
 
-  -- the file has so many bytes
+  -- the file has `len` bytes
   abbrev HasLength : List (List ℕ) → Type 0
   HasLength slots = length (machine.content (with_slots slots h) f) ≡ len
 
@@ -265,7 +265,7 @@ module _ (disk : Disk) (h : KernelState) (d fd f was len : ℕ) (mode : Mode)
       ∙ ap (λ (o : Option Descriptor). fds.with_descriptor s d fd (option_map (λ x. on.File x.0 at x.2) (open_on o)))
       (sym (descriptor-with_slots slots h d fd ∙ there))
 
-  -- whatever is read at the places of bytes
+  -- for each reading of the places of bytes
   pub moved-places : (at : ℕ) (ds : Domains) → ds ≡ with_fds_in h.domains d (moved at) → (g : Reading) → KeepsPools g
       → read_of g (record h { domains = ds }) ≡ (calls.seek (read_of g h) d fd at).after
   moved-places at ds is g keeps =
@@ -284,13 +284,13 @@ module _ (disk : Disk) (h : KernelState) (d fd f was len : ℕ) (mode : Mode)
       (λ slots has. (seek-tests at slots has ∙ within len at le, refl, moved-read at ds slots is)) own some
       (moved-sound at ds (omega (arith, le, short)) is)
 
--- how long a file is that is there
+-- the length of a file
 pub length_is : (disk : Disk) (h : KernelState) (f n : ℕ) → IsSound h → is_numbered h.files f ≡ true
     → (IsBackedBy disk h → n ≡ length (bytes_in_slot h.store disk.slots h.cache.files f)) → IsBackedBy disk h
     → n ≡ length (machine.content (machine_of disk.slots h) f)
 length_is disk h f n sound there is backed = let bounds = file_within h f sound there in
     is backed ∙ ap length (sym (content-machine_of disk.slots h f bounds.0 bounds.1))
 
--- no extent goes beyond a file's limit
+-- no extent ends after the greatest length of a file
 pub extents_short : (h : KernelState) (f : ℕ) → IsSound h → last_end (extents_in h.cache.files f) ≤ MAX_FILE_BYTES
 extents_short h f sound = let filed = (cache_sound h sound).files f in filed.short

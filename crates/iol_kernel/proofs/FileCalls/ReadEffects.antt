@@ -1,4 +1,4 @@
--- What a read of a file leaves of a kernel, from what the cache of files promises of it.
+-- The effects of a read of a file on a kernel, from the contract of the cache of files.
 use Rattle.std.proofs.Common.{◌≡◌, ◌∙◌, ◌⊎◌, ℕ, ◌+◌, ◌≤◌, List, [], ◌∷◌, ◌++◌, length, ap, refl, sym, subst, arith}
 use Rattle.std.proofs.Common.{Some, None, true, inl, inr, length-append}
 use Rattle.std.specs.Prelude.{Ok, Err}
@@ -44,7 +44,7 @@ use Rattle.iol_kernel.proofs.State.Uses.{all_few}
 abbrev Domains : Type 0
 Domains = List (Domain (List Slice))
 
--- A refusal tells the same of room and of failures, whatever the answer would have been.
+-- The facts that a refusal gives of room and failures do not depend on the type of the result.
 
 room_reported : (A B : Type 0) (has lacks : Type 0) (y : Refusal) → ReportsRoom {A = A} has lacks (Err y)
     → ReportsRoom {A = B} has lacks (Err y)
@@ -62,19 +62,19 @@ pub fault_reported : (A B : Type 0) (old new : Disk) (y : Refusal) → ReportsFa
 fault_reported A B old new y reported =
     record { honest = reported.honest; slots = reported.slots; counts = counts_reported A B old new y reported.counts }
 
--- counts are far below what a count can be
+-- each count is below 2^59
 pub counts_few : (h : KernelState) → IsSound h → CountsBelow h.store 576460752303423488
 counts_few h sound =
     record { each = λ b. omega (arith, sound.counted.each b, all_few b h.domains (objects_of h) sound.limits) }
 
--- a refusal before that tells nothing of room, and of no fault
+-- a refusal before room is requested reports no lack of room and no fault
 early_reported : (A : Type 0) (has lacks : Type 0) (disk : Disk) (y : Refusal) → IsBeforeRoom y
     → ReportsRoom {A = A} has lacks (Err y) × FaultCounts {A = A} disk disk (Err y)
 early_reported A has lacks disk (refusal.NoRoom p) none = absurd none
 early_reported A has lacks disk (refusal.Fault f) none = absurd none
 early_reported A has lacks disk y before = (tt, refl)
 
--- a refusal that has changed nothing
+-- a refusal that changed nothing
 pub reads_nothing : {A : Type 0} (x : FileRead) (disk : Disk) (h k : KernelState) (y : Refusal) → k ≡ h → IsBeforeRoom y
     → ReadsFileAs {A = A} x disk h (Err y) disk k
 reads_nothing {A} x disk h k y same before =
@@ -93,7 +93,7 @@ reads_nothing {A} x disk h k y same before =
       leaves = inl (before, refl, refl);
     })
 
--- a refused read: the pages that it wanted could be had, or no extent went
+-- a refused read: there was room for the range, or all extents are unchanged
 pub read_met : (x : FileRead) (disk after : Disk) (old new : KernelState) (y : Refusal)
     → LeavesAtRefusal x disk old after new y → RoomToRead x.file x.at x.count disk (holding_of old)
     ⊎ SameExtents old.cache new.cache
@@ -102,7 +102,7 @@ read_met x disk after old new y (inl (before, same, asked)) =
 read_met x disk after old new y (inr (late, refused)) =
     refused_met x.file x.at x.count disk (holding_of old) (holding_of new) y refused
 
--- a copying read that has changed nothing
+-- a copying read that changed nothing
 pub copies_nothing : (x : FileRead) (disk : Disk) (h : KernelState) (y : Refusal) → IsBeforeRoom y
     → CopiesFileAs x disk h (Err y) disk h
 copies_nothing x disk h y before = record {
@@ -131,7 +131,7 @@ length-read old new at to (g ∷ gs) order =
       order.1,
     )
 
--- a read does not go beyond where a file may end
+-- a read ends within the greatest length of a file
 pub read_fits : {x : FileRead} {h : KernelState} {n : ℕ} {disk : Disk} {a c : Holding} {xs : List Slice} → IsOpenAt h x
     → ReadsFile x.file x.at n disk a c xs → x.at + byte_len xs ≤ MAX_FILE_BYTES
 read_fits {x} {h} {n} {disk} {a} {c} {xs} held reads =
@@ -147,7 +147,7 @@ read_fits {x} {h} {n} {disk} {a} {c} {xs} held reads =
       reads.range.ends.short,
     )
 
--- A read by reference that has changed nothing: it was refused at once, or found no memory.
+-- A read by reference that changed nothing: a test refused it, or it found no memory.
 
 pub takes_nothing : {x : FileRead} {h : KernelState} → IsOpenAt h x → (disk : Disk) (y : Refusal)
     → first (read_tests (machine_of [] h) x.domain x.file x.mode true) ≡ Some y → IsBeforeRoom y

@@ -1,4 +1,4 @@
--- A read of no more bytes than a file has is a read of as many as were asked.
+-- A read of at most as many bytes as a file has left is a read of the requested number.
 use Rattle.std.proofs.Common.{◌≡◌, ℕ, min, length, List, take, drop, ap, ◌∙◌, arith}
 use Rattle.std.specs.Prelude.{Result}
 use Rattle.std.proofs.lemmas.List.{length-drop, take_min}
@@ -14,7 +14,7 @@ use Rattle.iol_cache.proofs.RangeReads.RangeHolds.{reports_more}
 use Rattle.iol_kernel.specs.FileReads.{IsReadable}
 
 module _ {disk : Disk} {f at n many : ℕ} where
-  -- both have seen the same end
+  -- both have the same end
   pub range_more : (c : Cached) → IsReadable disk c f at n many → Range disk c f at many → Range disk c f at n
   range_more c reported r = record {
     end = r.end;
@@ -44,7 +44,7 @@ module _ {disk : Disk} {f at n many : ℕ} where
     unfolding range_more
     lacks_more r = record { range = range_more old.cache reported r.range; lacks = r.lacks }
 
-    -- of the room that the first wanted, the second tells the same
+    -- a result that reports room for the shorter read reports it for the requested one
     pub reports_room : {A : Type 0} (r : Result A Refusal)
         → ReportsRoom (RoomToRead f at many disk old) (NoRoomToRead f at many disk old) r
         → ReportsRoom (RoomToRead f at n disk old) (NoRoomToRead f at n disk old) r

@@ -1,4 +1,4 @@
--- The store went on, and the cache of files over it, while each file read as it did: what the kernel then stands for.
+-- The state after a step of the store and of the cache of files in which every file keeps its bytes.
 use Rattle.std.proofs.Common.{◌≡◌, ℕ, suc, ◌+◌, ◌<◌, ◌≤◌, List, [], ◌∷◌, length, get_or, map, ap, ◌∙◌, refl, sym, subst}
 use Rattle.std.proofs.Common.{arith, Option, Some, None, true}
 use Rattle.std.specs.Prelude.{sum_by}
@@ -53,7 +53,7 @@ Domains = List (Domain (List Slice))
 abbrev pub over : Stored → Cached → Holding
 over s c = record { store = s; cache = c }
 
--- A change of domains, whatever bytes files have.
+-- A change of domains, for any bytes of files.
 
 pub agg-with_slots : (slots : List (List ℕ)) (h : KernelState) (d : ℕ) (xs : List Slice)
     → with_slots slots (record h { domains = with_agg_in h.domains d xs }) ≡ aggs.with_agg (with_slots slots h) d
@@ -119,7 +119,7 @@ module _ (disk : Disk) (given : List BufId) (h : KernelState) (t : Stored) (c : 
   domains_now : AllByRecursion (IsDomainReadable t) h.domains
   domains_now = domains_stay h.store t goes.moves.stays h.domains rest rest_held sound.domains
 
-  -- whatever bytes files have, all else is as it was
+  -- for any bytes of files, all else is unchanged
   pub with_slots-refilled : (slots : List (List ℕ)) → with_slots slots (refilled h.domains) ≡ with_slots slots h
   unfolding with_slots read_of state_view
   with_slots-refilled slots =
@@ -215,12 +215,12 @@ module _ (disk : Disk) (given : List BufId) (h : KernelState) (t : Stored) (c : 
         cached = kept;
       }
 
-  -- with the same domains, where no hold is given
+  -- with the same domains, if no new reference is given
   pub still_sound : given ≡ [] → IsSound (refilled h.domains)
   still_sound none = refilled-sound h.domains (λ b. omega (arith, ap (tally b) none, tally_none b)) domains_now
       sound.fds sound.once sound.limits.aggs sound.limits.few
 
-  -- with an aggregate more
+  -- with one more aggregate
   pub gained_sound : (d : ℕ) (xs : List Slice) → given ≡ bufs_of xs → (domain_in h.domains d).live ≡ true
       → live_aggs_in h.domains < MAX_AGGREGATES → byte_len xs ≤ MAX_AGGREGATE_BYTES → AllReadable t xs
       → IsSound (refilled (with_agg_in h.domains d xs))

@@ -1,4 +1,4 @@
--- What is dirty is written back, and what is clean goes: the machine stays as it is.
+-- Dirty extents are written back, and clean ones evicted: the machine's state is unchanged.
 use Rattle.std.proofs.Common.{inl, inr, ◌≡◌, ℕ, zero, suc, ◌+◌, ◌≤◌, ◌++◌, List, [], ◌∷◌, length, get_or, refl, sym, ap}
 use Rattle.std.proofs.Common.{◌∙◌, subst, arith, Option, Some, None, true, false, Bool}
 use Rattle.std.specs.Prelude.{Result, Ok, Err, cond, flat_map}
@@ -71,7 +71,7 @@ parts-first (suc n) (e ∷ es) = of e.dirty (parts-first n es) (parts-first (suc
     of false less more = flat_map-cons (λ (x : Extent). x.parts) e (first_cleaned (suc n) es)
         ∙ ap (λ l. e.parts ++ l) more ∙ sym (flat_map-cons (λ (x : Extent). x.parts) e es)
 
--- an extent more is clean, or some are
+-- one more extent is clean, or several are
 pub record KeepsParts (c d : Cached) : Type 0 where
   pub files : length d.files ≡ length c.files
   pub pools : (f : ℕ) → (file_in d.files f).pool ≡ (file_in c.files f).pool
@@ -110,7 +110,7 @@ cleaned_recaches h d m sound = record {
   sound = sound;
 }
 
--- The machine's state stays, with an honest store.
+-- The machine's state is unchanged, with an honest store.
 
 longer : (s : Stored) (c d : Cached) (x y : Disk) (f : ℕ)
     → bytes_in_slot s y.slots d.files f ≡ bytes_in_slot s x.slots c.files f
@@ -165,7 +165,7 @@ module _ (m : State → Meaning (Unit {0})) (h k : KernelState) (t : Stored) (d 
       stays = re.moves.stays;
     })
 
--- what is dirty is written back
+-- dirty extents were written back
 pub back_serves : (m : State → Meaning (Unit {0})) (h k : KernelState) (d : Cached) (x y : Disk)
     (r : Result (Unit {0}) Refusal) → IsSound h → KeepsParts h.cache d → cache.IsSound h.store d
     → ((stored : List (List ℕ)) → Step (m (machine_of stored h)) (machine_of stored h) r (machine_of stored h))
@@ -184,7 +184,7 @@ back_serves m h k d x y r sound parts after steps honest bytes stored was same =
     })
     same
 
--- what is clean goes
+-- clean extents were evicted
 pub given_recaches : (h : KernelState) (new : Holding) → GivesUp (holding_of h) new → cache.IsSound new.store new.cache
     → Recaches h.store new.store h.cache new.cache
 given_recaches h new m sound =
@@ -232,7 +232,7 @@ flushed_parts s f c d x y m there =
       ];
     }
 
--- a file that has a dirty extent is there
+-- a file that has a dirty extent is a file of the cache
 pub dirty_there : (fs : List CachedFile) (f : ℕ) (e : Extent) → dirty_in (extents_in fs f) ≡ Some e
     → is_numbered fs f ≡ true
 dirty_there fs f e is = pick (is_numbered fs f) refl

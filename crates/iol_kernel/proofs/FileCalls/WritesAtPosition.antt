@@ -1,4 +1,4 @@
--- A file is written at a descriptor's position, which moves past what was written.
+-- A file is written at a descriptor's position, which moves past the bytes written.
 use Rattle.std.proofs.Common.{inl, inr, ◌≡◌, ◌≢◌, ℕ, zero, suc, ◌+◌, ◌-◌, ◌<◌, ◌≤◌, List, [], ◌∷◌, ◌++◌, length, take}
 use Rattle.std.proofs.Common.{drop, get_or, map, refl, sym, ap, ◌∙◌, subst, arith, Option, Some, None, true}
 use Rattle.std.specs.Prelude.{slice_set}
@@ -111,7 +111,7 @@ ends_fewer e xs fd f at to mode is =
     let set = sum_by-set (on_end e) xs fd (Some (on.File f to mode)) none (within xs fd (on.File f at mode) is) in
     omega (arith, set, no_end e f to mode, no_end e f at mode, ap (on_end e) is)
 
--- as the machine has it, whatever the bytes of files are
+-- as the machine has it, for any bytes of files
 fds-with_slots : (slots : List (List ℕ)) (h : KernelState) (by : ℕ)
     → (machine.domain (with_slots slots h) by).fds ≡ (domain_in h.domains by).fds
 unfolding with_slots machine.domain
@@ -164,7 +164,7 @@ module _ (h : KernelState) (t : Stored) (d : Cached) (by fd f at to : ℕ) (mode
   unfolding with_slots machine.with_content
   content_set slots bytes = refl
 
-  -- what the machine writes
+  -- the machine's state after the write
   pub moved_written : (slots : List (List ℕ)) (w : Text) → at + length w ≡ to
       → with_slots (with_numbered slots f (overwritten at (bytes_of w) (machine.content (with_slots slots h) f))) moved
       ≡ writing.written (with_slots slots h) by fd (Some (on.File f at mode)) w

@@ -1,4 +1,4 @@
--- Closing, on the machine alone: it changes pipes and connections, and no domain.
+-- Closing, on the machine only: it changes pipes and connections, and no domain.
 use Rattle.std.proofs.Common.{◌≡◌, ℕ, List, [], ◌∷◌, ap, ◌∙◌, refl, sym, Option, Some, None, true}
 use Rattle.std.specs.Prelude.{fold}
 use Rattle.iol_core.specs.Text.{Text}
@@ -60,7 +60,7 @@ fold-with_domain s d x [] = refl
 fold-with_domain s d x (o ∷ os) = ap (λ (u : State). fold fds.closed_on u os) (closed_on-with_domain s d x o)
     ∙ fold-with_domain (fds.closed_on s o) d x os
 
--- nothing is left of a domain, so what it had before does not matter
+-- the state after a domain's end does not depend on its row before
 ended_after : (m s : State) (d : ℕ) (x : Domain Text) (os : List (Option Descriptor)) → s ≡ machine.with_domain m d x
     → machine.with_domain (fold fds.closed_on (fds.with_fds s d []) os) d no_domain
     ≡ machine.with_domain (fold fds.closed_on m os) d no_domain

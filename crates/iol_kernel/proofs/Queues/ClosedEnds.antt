@@ -51,9 +51,9 @@ frees_same s = frees_none s s refl refl refl
 
 pub ruleset same_rules = (moves_same, frees_same)
 
--- a pipe goes, in two steps
+-- a pipe is removed, in two steps
 
--- a place that is read where there is one
+-- an element that was read by its index is found there, if the index is within the list
 pub found_there : (old : Pipes) (n : ℕ) (z : Option (Pipe (List Slice))) (x : Pipe (List Slice)) → n < length old
     → z ≡ Some x → z ≡ get_or old n z → Some x ≡ in_place old n
 found_there old n z x there is read = sym is ∙ read ∙ get_or_default old n z None there
@@ -95,7 +95,7 @@ uses-with_pipe b qs p x there empty = pick (x.reading || x.writing) refl
         let e = sum_by-set (pipe_uses b) qs p none none there in
         omega (arith, e, uses_at b qs p, ap (uses b) (empty is), tally_none b)
 
--- what the machine does to the pipe
+-- the machine's change of the pipe
 reader-read : (f : Reading) (h : KernelState) (p : ℕ)
     → machine.with_pipe (read_of f h) p (pipe_view (read f) (without_reader (queue_at h.pipes p)))
     ≡ fds.closed_on (read_of f h) (Some (on.ReadEnd p))
@@ -152,7 +152,7 @@ reader_stays : (q : List Slice) (r : Bool) → r ≡ true
 reader_stays q true e = refl
 reader_stays q false e = e
 
--- a pipe where one end closes stays open for the other, and other pipes as they were
+-- a pipe with one closed end stays open for the other, and other pipes are unchanged
 stays_open : (is_open : Pipe (List Slice) → Bool) (qs : Pipes) (p n : ℕ) (o : Option (Pipe (List Slice)))
     → p < length qs → (is_open (queue_at qs p) ≡ true → is_open (unwrap_or o closed_pipe) ≡ true)
     → is_open (queue_at qs n) ≡ true → is_open (queue_at (slice_set qs p o) n) ≡ true
@@ -189,7 +189,7 @@ writer_keeps o p there = record { each = each }
     each (on.File f at mode) differ h = h
     each (on.Connection c) differ h = h
 
--- what is not open on the closed end stays open
+-- all ends except the closed one stay open
 pub ends_kept : (end : Descriptor) (old new : Objects (List Slice)) → KeepsEnds end old new
     → (fds : List (Option Descriptor)) → AllByRecursion (IsOpenEnd old) fds → ends_on end fds ≡ 0
     → AllByRecursion (IsOpenEnd new) fds

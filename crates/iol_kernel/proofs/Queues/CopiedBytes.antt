@@ -1,4 +1,4 @@
--- What a read by copying gives of a queue, where no more is asked for than waits.
+-- A read by copying of a queue has the same result if it requests no more bytes than are queued.
 use Rattle.std.proofs.Common.{◌≡◌, ℕ, List, [], ◌∷◌, ◌++◌, length, take, ap, ◌∙◌, sym, Option, Some, None, Bool, true}
 use Rattle.std.proofs.Common.{false}
 use Rattle.std.specs.Prelude.{MatchOption, Result, Ok, Err, is_none, min, not, if◌then◌else◌, option_map}
@@ -67,7 +67,7 @@ module _ (f : Reading) (h : KernelState) (d fd n m : ℕ) (none : open_on (machi
 pub front_is : (bytes rest into : List ℕ) (k : ℕ) → into ≡ bytes ++ rest → k ≡ length bytes → take k into ≡ bytes
 front_is bytes rest into k is count = ap (take k) is ∙ take_at bytes rest k (sym count)
 
--- as many as were asked for were taken off
+-- the requested number of bytes was taken off
 pub taken_out : (h k : KernelState) (d fd n : ℕ) (items : List ℕ) → IsSound h
     → ((f : Reading) → open_on (machine.descriptor (read_of f h) d fd) ≡ None)
     → first (reading.read (machine_of [] h) d fd n).refusals ≡ None
@@ -85,7 +85,7 @@ taken_out h k d fd n items sound none passed bytes left = record {
     never : (xs : List ℕ) (p : ℕ) → ◌≡◌ {A = Result (List ℕ) Refusal} (Ok xs) (Err (NoRoom p)) → ⊥
     never xs p e = cc e
 
--- as many as wait were
+-- the smaller of the requested and the queued number was taken off
 pub listed : (h k : KernelState) (d fd n m : ℕ) (items : List ℕ) → IsSound h
     → ((f : Reading) → open_on (machine.descriptor (read_of f h) d fd) ≡ None)
     → first (reading.read (machine_of [] h) d fd n).refusals ≡ None

@@ -1,4 +1,4 @@
--- Bytes are written by copying, or refused before anything was done.
+-- Bytes are written by copying, or refused before any effect.
 use Rattle.std.proofs.Common.{◌≡◌, ◌⊎◌, ℕ, Bool, true, false, List, [], ◌∷◌, length, Option, Some, None, ap, sym, inl}
 use Rattle.std.proofs.Common.{inr}
 use Rattle.std.specs.Prelude.{◌&&◌, IfErr, MatchOption, Result, Ok, Err, is_none, not}
@@ -16,12 +16,12 @@ use Rattle.iol_kernel.specs.Room.{MayHaveEvicted, Places}
 use Rattle.iol_kernel.specs.WritesByCopy.{FailsTests}
 use Rattle.iol_kernel.proofs.State.AfterRoom.{memory_wanted, places_refused}
 
--- of a call that is never refused late the refusal is the first that holds
+-- the refusal of a call without late refusals is the first one that applies
 first_holds : (o : Option Refusal) (x : Refusal) → MatchOption o (Never x) (λ y. x ≡ y) → o ≡ Some x
 first_holds None x none = absurd none
 first_holds (Some y) x is = ap (λ (z : Refusal). Some z) (sym is)
 
--- The tests of a write are not for memory.
+-- None of the tests of a write gives Memory.
 
 four_tests : (p : ℕ) (a b c d : Bool)
     → first ((TooLong when a) ∷ (PoolClosed p when b) ∷ (BrokenPipe when c) ∷ (WouldBlock when d) ∷ []) ≡ Some Memory

@@ -1,4 +1,4 @@
--- Ends of pipes stay open where a pipe is added or its queue changes.
+-- Ends of pipes stay open when a pipe is added or its queue changes.
 use Rattle.std.proofs.Common.{◌≡◌, ◌≢◌, ℕ, zero, suc, ◌<◌, ◌≤◌, List, [], ◌∷◌, length, ap, ◌∙◌, refl, sym, arith, Bool}
 use Rattle.std.specs.List.{AllByRecursion}
 use Rattle.std.proofs.Common.{Option, Some, None, true, false, inl, inr, ◌⊎◌}
@@ -142,7 +142,7 @@ ends_queued o p q lt fds e =
     (IsOpenEnd (record o { pipes = slice_set o.pipes p (Some (record (queue_at o.pipes p) { queue = q })) })) fds
     (end_queued o p q lt) e
 
--- a pipe with an open end is there
+-- a pipe with an open end exists
 
 some_end : (qs : Pipes) (p : ℕ) → in_place qs p ≡ None → ((queue_at qs p).reading ≡ true)
     ⊎ ((queue_at qs p).writing ≡ true) → ⊥

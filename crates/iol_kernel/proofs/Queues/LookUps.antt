@@ -1,4 +1,4 @@
--- What is looked up of a queue, by what its descriptor is open on, whatever is read at the places.
+-- Facts of a queue, by the object of its descriptor, for each reading of places.
 use Rattle.std.proofs.Common.{◌≡◌, ℕ, ◌-◌, ◌<◌, List, [], ◌∷◌, length, take, ap, ◌∙◌, refl, sym, arith, Option, Some}
 use Rattle.std.proofs.Common.{None, true, false, cond}
 use Rattle.std.specs.Prelude.{min, not, option_map, option_and_then, if◌then◌else◌}
@@ -31,7 +31,7 @@ use Rattle.iol_kernel.proofs.FileCalls.FileTests.{no_queue}
 use Rattle.iol_kernel.proofs.Queues.PipeEnds.{end_held}
 use Rattle.iol_kernel.proofs.State.ReadOf.{queue-read_of}
 
--- A connection that is there, and one that is not.
+-- A connection that exists, and one that does not.
 
 pub conn_at-there : (f : Reading) (h : KernelState) (c : ℕ) (y : Conn (List Slice)) → Some y ≡ lookup h.conns c
     → machine.conn_at (read_of f h) c ≡ conn_view (read f) y
@@ -41,7 +41,7 @@ pub conn_at-none : (f : Reading) (h : KernelState) (c : ℕ) → None ≡ lookup
     → machine.conn_at (read_of f h) c ≡ conn_view (read f) no_conn
 conn_at-none f h c none = conn_at-read_of f h c ∙ ap (conn_view (read f)) (conn_in-none h.conns c none)
 
--- What waits to be read, and what was written and is not yet taken.
+-- The bytes to be read, and the bytes written and not yet read.
 
 module _ (f : Reading) (h : KernelState) (x : Descriptor) where
   pub unread-pipe : (p : ℕ) → x ≡ on.ReadEnd p
@@ -52,7 +52,7 @@ module _ (f : Reading) (h : KernelState) (x : Descriptor) where
       → writing.unsent (read_of f h) (Some x) ≡ read f (queue_at h.pipes p).queue
   unsent-pipe p is = ap (λ (z : Descriptor). writing.unsent (read_of f h) (Some z)) is ∙ queue-read_of f h p
 
-  -- of a connection as it is seen
+  -- of a connection, as a reading sees it
   module _ (c : ℕ) (y : Conn (List Slice)) (is : x ≡ on.Connection c)
       (seen : machine.conn_at (read_of f h) c ≡ conn_view (read f) y) where
     pub unread-conn : reading.unread (read_of f h) (Some x) ≡ read f y.incoming
@@ -80,7 +80,7 @@ fitting-queue s n (on.ReadEnd p) other = refl
 fitting-queue s n (on.WriteEnd p) other = refl
 fitting-queue s n (on.Connection c) other = refl
 
--- The pool of the first byte asked for, where the reader may not read it.
+-- The pool of the first byte requested, if the reader may not read it.
 
 abbrev pub denied_at : State → (d : ℕ) → Option ℕ → Option ℕ
 denied_at s d o = option_and_then (λ q. if machine.may_read s d q then None else Some q) o
@@ -117,7 +117,7 @@ module _ (s : State) (d n : ℕ) (x : Descriptor) (no_file : writing.is_file (So
       one : min n 1 ≡ 1
       one = omega arith
 
--- What a domain's descriptor is open on, where no file is.
+-- The object of a domain's descriptor that is not on a file.
 
 pub is_queue : (h : KernelState) (d fd : ℕ) (x : Descriptor) → machine.is_live (machine_of [] h) d ≡ true
     → machine.descriptor (machine_of [] h) d fd ≡ Some x → ((f : Reading) → open_on (held_by (read_of f h) d fd) ≡ None)

@@ -56,7 +56,7 @@ use Rattle.iol_kernel.proofs.State.Sound.{each-get, each-set, each-weaker}
 use Rattle.iol_kernel.proofs.State.Uses.{uses-set_pipe}
 use Rattle.iol_kernel.proofs.State.Views.{with_pipe-view}
 
--- a pipe that is lent
+-- a pipe that is borrowed
 
 set_there : {A : Type 0} (xs : List (Option A)) (n : ℕ) (x y : A) → in_place xs n ≡ Some x
     → in_place (slice_set xs n (Some y)) n ≡ Some y
@@ -92,7 +92,7 @@ lent_set rs qs n p x q same is there =
     ∙ ap (λ (z : Pipe (List Slice)). slice_set rs p (Some (record (queue_at rs p) { queue = z.queue })))
     (sym (lent_is qs n p x y is there))
 
--- Behind what is to be sent on a connection.
+-- At the end of a connection's output.
 
 module _ (h : KernelState) (t : Stored) (c pool : ℕ) (x : Conn (List Slice)) (q : List Slice) (bytes : List ℕ)
     (sound : IsSound h) (found : lookup h.conns c ≡ Some x) (adds : AddsBytes h.store t x.outgoing q pool bytes)
@@ -124,7 +124,7 @@ module _ (h : KernelState) (t : Stored) (c pool : ℕ) (x : Conn (List Slice)) (
       (sym is)
       ∙ ap (λ (o : Option Descriptor). writing.written s d fd o (read f adds.slices)) (sym to)
 
--- Behind what waits in a pipe.
+-- At the end of a pipe's queue.
 
 right_true : (a b : Bool) → b ≡ true → (a || b) ≡ true
 right_true true b e = refl
@@ -197,7 +197,7 @@ module _ (h : KernelState) (t : Stored) (p pool : ℕ) (q : List Slice) (bytes :
       (sym (pipe_at-read_of f h p))
       ∙ ap (λ (o : Option Descriptor). writing.written m d fd o (read f adds.slices)) (sym to)
 
--- What the call means, of either.
+-- The meaning of the call, for both.
 
 module _ (h : KernelState) (d fd : ℕ) (target : Descriptor) (pool : ℕ) (bytes : List ℕ)
     (may : MayPut d fd target pool bytes h) where
@@ -245,7 +245,7 @@ module _ (h : KernelState) (d fd : ℕ) (target : Descriptor) (pool : ℕ) (byte
     put_some = fills_some (λ s. writing.write s d fd bytes) (written_to d fd) pool n h k put_step put_made sound
         adds.moves.stays
 
-  -- a late refusal, of a queue that takes so many
+  -- a late refusal, of a queue that takes n bytes
   put_none : (k : KernelState) (r : Refusal) (n : ℕ) → (writing.write (machine_of [] h) d fd bytes).answer ≡ n
       → WantOfRoom pool r → k ≡ h
       → ((p : ℕ) → ◌≡◌ {A = Result ℕ Refusal} (Err r) (Err (NoRoom p)) → has_room h.store pool n ≡ false)
@@ -365,7 +365,7 @@ module _ (h : KernelState) (d fd p pool : ℕ) (bytes : List ℕ) (may : MayPut 
         put_none h d fd (on.WriteEnd p) pool bytes may filled r (fitting waits (length bytes))
         (counts (bytes_over [] h.store)) late kept room.no_room
 
--- a refusal leaves the pipes and the store
+-- a refusal leaves the pipes and the store unchanged
 pub kept_pipes : {A : Type 0} (h : KernelState) (t : Stored) (qs : List (Option (Pipe (List Slice))))
     (r : Result A Refusal) → OnErr r ((qs ≡ h.pipes) × (t ≡ h.store)) → OnErr r (record h { store = t; pipes = qs } ≡ h)
 kept_pipes h t qs (Ok a) same = tt

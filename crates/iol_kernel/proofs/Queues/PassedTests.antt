@@ -1,4 +1,4 @@
--- What holds where a write has passed its tests.
+-- Facts that follow if a write has passed its tests.
 use Rattle.std.proofs.Common.{◌≡◌, ℕ, zero, suc, ◌+◌, ◌≤◌, Bool, true, false, List, [], ◌∷◌, length, drop, Option, Some}
 use Rattle.std.proofs.Common.{None, inl, inr, refl, sym, ap, ◌∙◌, subst, arith}
 use Rattle.std.specs.Prelude.{nat_lt, not}
@@ -15,7 +15,7 @@ use Rattle.iol_core.specs.declared.limits.TheConstants.{MAX_FILE_BYTES}
 use Rattle.iol_core.specs.declared.refusals.Refusal.{Refusal}
 use Rattle.iol_core.specs.declared.refusals.Refusal.TheVariants.{NoDomain, TooLong, BrokenPipe, WouldBlock}
 
--- the test in a place
+-- the test at an index
 abbrev test_at : (n : ℕ) → List (Option Refusal) → Option Refusal
 test_at n [] = None
 test_at zero (o ∷ rest) = o
@@ -54,7 +54,7 @@ short_enough o f at n mode is fits = elim (cases_lt MAX_FILE_BYTES (at + n)) [
     within = sym (ap (λ (p : Option Descriptor). writing.is_too_long p n) is)
         ∙ not_when TooLong (writing.is_too_long o n) fits
 
--- the tests of a queue, of what the descriptor is open on
+-- the tests of a queue, by the object of the descriptor
 abbrev last_of : State → (n : ℕ) → Option Descriptor → Option Refusal
 last_of s n o = first ((BrokenPipe when writing.is_broken s o) ∷ (WouldBlock when writing.takes_none s o n) ∷ [])
 

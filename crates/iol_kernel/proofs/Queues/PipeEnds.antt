@@ -83,7 +83,7 @@ length-placed qs x few free = elim (cases_lt (lowest qs) (length qs)) [
       omega (arith, ap length p, length-append qs (Some x ∷ []), lowest_few qs, k, free))
 ]
 
--- its ends are open there alone
+-- its ends are open only there
 once_piped : (h : KernelState) (d : ℕ) → IsSound h → (domain_in h.domains d).live ≡ true
     → IsOpenOnce (with_fds_in h.domains d (with_ends (domain_in h.domains d).fds (lowest h.pipes)))
 once_piped h d sound live =
@@ -204,7 +204,7 @@ freed-alone h ds d fd x sound live there is = (end_alone x [] ds once).0
       ends-freed x x (domain_in h.domains d).fds fd there,
     )
 
--- what it is open on
+-- the object of a descriptor
 
 pub end_held : (f : Reading) (h : KernelState) (d fd : ℕ) (x : Descriptor) → IsSound h
     → machine.descriptor (read_of f h) d fd ≡ Some x → IsOpenEnd (objects_of h) (Some x)
@@ -236,7 +236,7 @@ pub freed-read_of : (f : Reading) (h : KernelState) (d fd : ℕ)
     → fds.freed (read_of f h) d fd ≡ slice_set (domain_in h.domains d).fds fd None
 freed-read_of f h d fd = ap (λ (xs : List (Option Descriptor)). slice_set xs fd None) (fds-read_of f h d)
 
--- the state after it, where x was given
+-- the machine's state after the gift of x
 gift : (f : Reading) (h : KernelState) (d fd to : ℕ) (x : Descriptor) → in_place (domain_in h.domains d).fds fd ≡ Some x
     → (fds.give_fd (read_of f h) d fd to).after ≡ fds.given_to (read_of f h) d fd to x
 gift f h d fd to x there =

@@ -1,4 +1,4 @@
--- A read by reference, by what the descriptor is open on.
+-- A read by reference, by the object of the descriptor.
 use Rattle.std.proofs.Common.{◌≡◌, ℕ, [], ◌∷◌, ap, ◌∙◌, refl, sym, subst, Option, Some, None, Bool, true, false, inl}
 use Rattle.std.proofs.Common.{inr}
 use Rattle.std.specs.Prelude.{Result, Err, is_none, not, if◌then◌else◌}
@@ -23,7 +23,7 @@ use Rattle.iol_kernel.specs.declared.open_file.OpenFile.{OpenFile}
 use Rattle.iol_kernel.proofs.FileCalls.FileTests.{refuses_iol_read}
 use Rattle.iol_kernel.proofs.State.Refinement.{carried_refused}
 
--- what a live domain's descriptor is open on
+-- the object of a live domain's descriptor
 held_is : (live : Bool) (o p : Option Descriptor) → live ≡ true → o ≡ p → (if live then o else None) ≡ p
 held_is live o p is from = ap (λ b. if b then o else None) is ∙ from
 
@@ -58,7 +58,7 @@ reads_queue h k d fd n x r disk held no_file carries =
     subst (λ o. ReadsOn d fd n o disk h r disk k) (sym (held_on h d fd x held))
     (on_queue h k d fd n x r disk no_file carries)
 
--- Nothing.
+-- No domain, or no descriptor.
 
 tests : State → (d n : ℕ) → Bool → Option Descriptor → Option Refusal
 tests s d n live from = first (

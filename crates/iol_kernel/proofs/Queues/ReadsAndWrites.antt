@@ -1,4 +1,4 @@
--- What is written to queues and read from them, whatever is read at the places.
+-- Writes to queues and reads from them, for each reading of places.
 use Rattle.std.proofs.Common.{◌≡◌, ℕ, ◌+◌, ◌-◌, cond, List, [], ◌∷◌, ◌++◌, length, take, drop, ap, ◌∙◌, refl, sym}
 use Rattle.std.proofs.Common.{arith, Option, Some, true, Bool}
 use Rattle.std.specs.Prelude.{slice_set, ◌||◌, min}
@@ -34,7 +34,7 @@ left_true a b e = grind (arith, nat_tests, e)
 right_true : (a b : Bool) → b ≡ true → (a || b) ≡ true
 right_true a b e = grind (arith, nat_tests, e)
 
--- Writing: the queue gets what fits.
+-- Writing: the queue gets the bytes that fit.
 
 abbrev pub after_push : (p n d a : ℕ) → State → State
 after_push p n d a s =

@@ -29,7 +29,7 @@ module _ (h : KernelState) (d fd n : ℕ) where
   tests_over stored = subst (λ (s : State). first (called s).refusals ≡ first (called (machine_of [] h)).refusals)
       (with_slots-same h stored) (read-tests (machine_of stored h).slots h d fd n)
 
-  -- what a queue gives does not depend on files
+  -- the text of a queue does not depend on files
   text_of_queue : (slots : List (List ℕ)) (o : Option Descriptor) → open_on o ≡ None
       → bytes_of (reading.read_text (with_slots slots h) d o n) ≡ bytes_of (reading.read_text (machine_of [] h) d o n)
   unfolding with_slots machine.pipe_at machine.conn_at machine.pool

@@ -1,4 +1,4 @@
--- Pipes stay sound where a queue gets bytes or gives them to a domain.
+-- Pipes stay sound when a queue gets bytes or gives them to a domain.
 use Rattle.std.proofs.Common.{◌≡◌, ◌∙◌, ℕ, ◌+◌, ◌-◌, ◌<◌, ◌≤◌, List, [], ◌∷◌, ◌++◌, length, take, drop, ap, refl, sym}
 use Rattle.std.proofs.Common.{subst, arith, Option, Some, None, true, false, inl, inr, length-set}
 use Rattle.std.specs.Prelude.{slice_set, unwrap_or, min}
@@ -81,7 +81,7 @@ queue_short h p sound = pick (in_place h.pipes p) (each-get IsShort h.pipes p No
     pick None r = omega arith
     pick (Some x) r = r
 
--- and the store goes on
+-- and the store counts the shared slices
 module _ (h : KernelState) (t : Stored) (qs : List (Option (Pipe (List Slice)))) (p n d a : ℕ) (from : List Slice)
     (sound : IsSound h) (writing : (queue_at h.pipes p).writing ≡ true) (found : Some from ≡ agg_in h.domains d a)
     (short : byte_len (queue_at qs p).queue ≤ 65536)
@@ -237,7 +237,7 @@ module _ (h : KernelState) (t : Stored) (ds : List (Domain (List Slice))) (qs : 
         (pools_pooled h.store t h.conns h.cache.files takes.shares.pools sound.pooled) sound.sums sound.filed
         sound.cached (ap page_count takes.shares.arena)))
 
--- What the calls answer.
+-- The answers of the calls.
 
 pub taken_answers : (h : KernelState) (t : Stored) (ds : List (Domain (List Slice)))
     (qs : List (Option (Pipe (List Slice)))) (fd p d n a : ℕ) → IsOpenOn h d fd (on.ReadEnd p)

@@ -45,7 +45,7 @@ use Rattle.iol_kernel.proofs.State.Uses.{uses-set_pipe}
 use Rattle.iol_kernel.proofs.State.Views.{pools-view, with_pipe-view}
 use Rattle.iol_kernel.specs.Readings.{Reading, read, KeepsPools, bytes_over}
 
--- What a reader may see of the first n bytes of a queue.
+-- The bytes that a reader may read, of the first n bytes of a queue.
 
 abbrev pub seen : List Pool → (d n : ℕ) → List Slice → List Place
 seen ps d n queue = take_while (may_see ps d) (take n (places queue))
@@ -94,7 +94,7 @@ seen-bytes h d n count queue counted =
     ∙ ap bytes_of (sym (take-map f.at count (places queue)))
     ∙ sym (take-map (λ (b : ℕ × ℕ). b.0) count (text_of h.store queue))
 
--- a change that is one of the machine's where pools are kept
+-- two changes of the machine that are equal if pools are kept
 leaves_kept : (m n : State → State) (h k : KernelState)
     → ((f : Reading) → KeepsPools f → m (read_of f h) ≡ n (read_of f h)) → Leaves m h k → Leaves n h k
 leaves_kept m n h k same one = record {
@@ -107,7 +107,7 @@ leaves_kept m n h k same one = record {
   stays = one.stays;
 }
 
--- The front of a queue, whatever its descriptor is open on: the text that waits there is read of the slices q.
+-- The front of a queue, of a pipe or a connection: its text is that of the slices `queue`.
 
 text-queue : (s : State) (d n : ℕ) (x : Descriptor) → writing.is_file (Some x) ≡ false
     → reading.read_text s d (Some x) n ≡ admitted (machine.may_read s d) (take n (reading.unread s (Some x)))
@@ -146,7 +146,7 @@ module _ (h : KernelState) (d fd n count : ℕ) (x : Descriptor) (from : (f : Re
       (λ (o : Option Descriptor). reading.read_on (read_of f h) d fd o
       (length (reading.read_text (read_of f h) d o n))) (sym (from f))) skipped
 
--- The first bytes of what came in on a connection are taken off.
+-- The first bytes of a connection's input are taken off.
 
 module _ (h k : KernelState) (c count : ℕ) (sound : IsSound h) (open' : IsOpenConn (conn_in h.conns c))
     (rest : places (conn_in k.conns c).incoming ≡ drop count (places (conn_in h.conns c).incoming))
@@ -211,7 +211,7 @@ module _ (h k : KernelState) (c count : ℕ) (sound : IsSound h) (open' : IsOpen
         (λ s. machine.with_conn s c (skip (machine.conn_at s c))) h (turned h k.store c x y sound found) as_read
         skipped)
 
--- The first bytes that wait in a pipe are taken off.
+-- The first bytes of a pipe's queue are taken off.
 
 left_true : (a b : Bool) → a ≡ true → (a || b) ≡ true
 left_true true b e = refl

@@ -1,4 +1,4 @@
--- New bytes at the end of a queue that a domain writes to, after clean extents gave way.
+-- New bytes at the end of a queue that a domain writes to, after evictions of clean extents.
 use Rattle.std.proofs.Common.{◌≡◌, ℕ, ◌∙◌, List, [], ◌∷◌, length, Option, Some, None, refl, sym, ap, subst, true, false}
 use Rattle.std.specs.Prelude.{Result, Err, not, is_none, ◌&&◌}
 use Rattle.iol_arena.specs.State.{pages_for}
@@ -21,15 +21,15 @@ use Rattle.iol_kernel.proofs.AggregateCalls.NewAggregates.{open_after}
 use Rattle.iol_kernel.proofs.State.AfterRoom.{kept_reading, queue_none, queue_places}
 use Rattle.iol_kernel.proofs.State.ReadOf.{closed-read_of}
 
--- the pool in which the bytes are to lie is open
+-- the pool for the new bytes is open
 pub may_place : {d fd : ℕ} {target : Descriptor} {pool : ℕ} {bytes : List ℕ} {h : KernelState}
     → MayPut d fd target pool bytes h → MayPlaceIn pool h
 may_place {d} {fd} {target} {pool} {bytes} {h} may =
     record { sound = may.sound; opened = sym (closed-read_of (bytes_over [] h.store) h pool) ∙ may.passes.opened }
 
--- What a write asks does not look at the bytes of files.
+-- The tests of a write do not depend on the bytes of files.
 
--- the tests of a write, of what the descriptor is open on
+-- the tests of a write, by the object of the descriptor
 abbrev tests : State → (d : ℕ) → Option Descriptor → (n : ℕ) → List (Option Refusal)
 tests s d to n =
     (NoDomain when not (machine.is_live s d)) ∷
@@ -42,7 +42,7 @@ tests s d to n =
     (BrokenPipe when writing.is_broken s to) ∷
     (WouldBlock when writing.takes_none s to n) ∷ []
 
--- what is asked of a descriptor does not look at the bytes of files
+-- the tests and the answer for a descriptor do not depend on the bytes of files
 blind : (d n : ℕ) (s : State) (x : List (List ℕ)) (o : Option Descriptor)
     → (first (tests (record s { slots = x }) d o n) ≡ first (tests s d o n))
     × (writing.fitting (record s { slots = x }) o n ≡ writing.fitting s o n)

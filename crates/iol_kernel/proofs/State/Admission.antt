@@ -1,4 +1,4 @@
--- What becomes of a kernel when a pool's list names a domain more.
+-- The state after a pool's list names one more domain.
 use Rattle.std.proofs.Common.{◌≡◌, ℕ, true, refl, arith}
 use Rattle.iol_core.specs.Calls.Pools.{admitting}
 use Rattle.iol_core.specs.NumberedLists.{is_numbered, with_numbered}

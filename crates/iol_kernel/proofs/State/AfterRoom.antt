@@ -1,4 +1,4 @@
--- What a call means that places new bytes after clean extents gave way.
+-- The meaning of a call that places new bytes after evictions of clean extents.
 use Rattle.std.proofs.Common.{◌≡◌, ℕ, ◌+◌, ◌≤◌, ◌∙◌, Bool, true, false, List, [], length, Some, None, refl, sym, ap}
 use Rattle.std.proofs.Common.{subst, arith, inl, inr}
 use Rattle.std.specs.Prelude.{◌↔◌, IsTrue, nat_le, MatchOption, Result, not, Ok, Err}
@@ -51,7 +51,7 @@ pub has : (h : KernelState) (p n pages : ℕ) (b : Bool) → pages ≡ pages_for
     → (IsTrue b → pages ≤ length (free_of h.store p)) → IsTrue b → has_room h.store p n ≡ true
 has h p n pages b is free true' = room_there h.store p n (omega (arith, is, free true'))
 
--- of so many bytes as of the pages that hold them
+-- room for the pages of n bytes is room for n bytes
 pub fits_asked : (h k : KernelState) (p n pages : ℕ) (b : Bool) → pages ≡ pages_for n → AsksRoom p pages h b k
     → AsksToFit p n h b k
 fits_asked h k p n pages b is asked = record {
@@ -61,7 +61,7 @@ fits_asked h k p n pages b is asked = record {
   refused = asked.refused;
 }
 
--- What does not look at the bytes of files is as it was.
+-- Facts that do not depend on the bytes of files are unchanged.
 
 pub kept_machine : {A : Type 0} (g : State → A) (pool pages : ℕ) (h k : KernelState) → MakesRoom pool pages h k
     → ((s : State) (x : List (List ℕ)) → g (record s { slots = x }) ≡ g s) → g (machine_of [] k) ≡ g (machine_of [] h)
@@ -105,7 +105,7 @@ places_refused m put pool n h x sound is other tested = record {
       absurd (tested (read_of f h) (is f ∙ ap (λ (y : Refusal). Some y) (err_is x Memory e))));
 }
 
--- A late refusal that does not come for want of room comes for want of memory.
+-- A late refusal that is not NoRoom is Memory.
 
 pub memory_left : (pool : ℕ) (x : Refusal) → WantOfRoom pool x → ((p : ℕ) → x ≡ NoRoom p → ⊥) → x ≡ Memory
 memory_left pool refusal.NoDomain late roomy = absurd late
@@ -170,7 +170,7 @@ places_none {A} m put pool n h k room same passed late lacks = record {
         late_step (m (machine_of stored h)) (NoRoom pool) (passed (bytes_over stored h.store))
         (late (bytes_over stored h.store))
 
--- Where room was made, the call is carried out from there.
+-- If room was made, the call is carried out from there.
 
 pub serves_after : {A : Type 0} (m : State → Meaning A) (pool pages : ℕ) (h k l : KernelState) (r : Result A Refusal)
     → MakesRoom pool pages h k → Steps m k r l → IsSound l → l.cache ≡ k.cache → l.sums ≡ k.sums → Stays k.store l.store
@@ -205,7 +205,7 @@ places_filled m put pool n h k l a room fits' steps made sound cache stays = rec
   memory = λ e. absurd (cc e);
 }
 
--- for want of memory
+-- a refusal for lack of memory
 pub places_late : {A : Type 0} (m : State → Meaning A) (put : State → Text → State) (pool n : ℕ) (h k l : KernelState)
     (x : Refusal) → MakesRoom pool (pages_for n) h k → has_room k.store pool n ≡ true → can_fit h pool n ≡ true
     → Steps m k (Err x) l → l ≡ k → WantOfRoom pool x
@@ -229,7 +229,7 @@ places_late {A} m put pool n h k l x room roomy fits' steps same late lacks =
       memory = λ e. fits';
     })
 
--- Bytes that came where there was room, and bytes that did not.
+-- Bytes that were placed, and bytes that were not.
 
 pub fills_some : (m : State → Meaning ℕ) (put : State → Text → State) (pool n : ℕ) (h k : KernelState)
     → Steps m h (Ok n) k → MakesBytes put pool n h k → IsSound k → Stays h.store k.store → Fills m put pool h (Ok n) k
@@ -264,7 +264,7 @@ fills_none m put pool h k x sound same step lacks =
           lacks;
     })
 
--- New bytes of a queue: the machine says how many fit, and in which pool they lie.
+-- New bytes of a queue: the machine determines how many fit, and in which pool they are placed.
 
 module _ (m : State → Meaning ℕ) (put : State → Text → State) (pool_of : State → ℕ) (pool count : ℕ) (h k : KernelState)
     (room : MakesRoom pool (pages_for count) h k)
@@ -332,7 +332,7 @@ none_fit h p n lacks none =
     le_yes : (a b : ℕ) → a ≤ b → nat_le a b ≡ true
     le_yes a b le = grind (arith, nat_tests, le)
 
--- bytes of files lie where they lay, but for clean extents
+-- bytes of files keep their places, except those under clean extents
 pub filled_keeps : (put : State → Text → State) (pool n : ℕ) (h l : KernelState)
     → AfterRoom pool n h (λ roomy. MakesBytes put pool n roomy l) → KeepsDirty h.cache l.cache
 filled_keeps put pool n h l x = subst (λ (c : Cached). KeepsDirty h.cache c) (sym x.then.cache) x.room.keeps

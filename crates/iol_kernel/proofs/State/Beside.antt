@@ -1,4 +1,4 @@
--- What a kernel stands for, its files with any bytes.
+-- The machine's state of a kernel, with any bytes of its files.
 use Rattle.std.proofs.Common.{◌≡◌, ℕ, ◌-◌, ◌<◌, ◌≤◌, ◌∙◌, List, [], length, get_or, replicate, refl, ap, Option, arith}
 use Rattle.std.specs.Prelude.{Err, Result}
 use Rattle.std.proofs.lemmas.Bool.Decides.{nat_tests}
@@ -21,13 +21,13 @@ use Rattle.iol_kernel.specs.Readings.{bytes_over, slot_read, slots_read}
 use Rattle.iol_kernel.specs.Views.{state_view}
 use Rattle.iol_kernel.proofs.State.Stay.{stays_here}
 
--- it is what it stands for where files have the bytes that they have there
+-- with the bytes that its files have, it is the kernel's own machine state
 pub with_slots-own : (stored : List (List ℕ)) (h : KernelState)
     → with_slots (machine_of stored h).slots h ≡ machine_of stored h
 unfolding with_slots read_of state_view
 with_slots-own stored h = refl
 
--- domains are the same, whatever is in files and whatever is read
+-- domains do not depend on the bytes of files
 
 pub live-with_slots : (slots : List (List ℕ)) (h : KernelState) (d : ℕ)
     → machine.is_live (with_slots slots h) d ≡ machine.is_live (machine_of [] h) d
@@ -65,7 +65,7 @@ content-machine_of stored h f some within =
     at ∙ get_or-map-range_with_len (slot_read (bytes_over stored h.store) h.cache.files) 1 MAX_FILES (f - 1) f []
     (omega (arith, some, within)) (omega (arith, some))
 
--- slots of so many bytes each
+-- slots of `len` bytes each
 unfoldable pub even : (slots len : ℕ) → List (List ℕ)
 even slots len = replicate slots (replicate len 0)
 
@@ -90,8 +90,8 @@ at_own : {A : Type 0} (m : State → Meaning A) (disk : Disk) (h : KernelState) 
 unfolding with_slots read_of state_view
 at_own m disk h ds r step = step
 
--- At most descriptors change. The call is the machine's step where the bytes of files meet P: those that files have
--- over an honest store do, and some do in any case.
+-- At most descriptors change. The call is the machine's step if the bytes of files satisfy P: those of an honest
+-- store do, and so do some bytes in any case.
 pub serves_where : {A : Type 0} (P : List (List ℕ) → Type 0) (m : State → Meaning A) (disk : Disk) (h : KernelState)
     (ds : List (Domain (List Slice))) (r : Result A Refusal) (before : List (List ℕ))
     → (let k : KernelState = record h { domains = ds } in
@@ -112,7 +112,7 @@ serves_where P m disk h ds r before steps own some sound = record {
   stays = stays_here h.store;
 }
 
--- a call that is refused whatever files hold
+-- a call that is refused for any bytes of files
 pub serves_refused : {A : Type 0} (m : State → Meaning A) (disk : Disk) (h : KernelState) (x : Refusal)
     → ((slots : List (List ℕ)) → Step (m (with_slots slots h)) (with_slots slots h) (Err x) (with_slots slots h))
     → IsSound h → Serves m disk h (Err x) disk h

@@ -1,4 +1,5 @@
--- Calls that leave the cache of files as it is: over each store they do what `Serves` promises, and leave it as it is.
+-- Calls that leave the cache of files unchanged: over each store they have the effect that `Serves` states, and leave
+-- the store unchanged.
 use Rattle.std.proofs.Common.{◌≡◌, ℕ, List, refl, sym, subst}
 use Rattle.std.specs.Prelude.{Result}
 use Rattle.iol_core.specs.State.{State}
@@ -23,7 +24,7 @@ pub with_slots-same : (h : KernelState) (stored : List (List ℕ))
 unfolding with_slots read_of state_view
 with_slots-same h stored = refl
 
--- a step over one store is a step beside the bytes of files
+-- a step over one store is a step for some bytes of files
 pub steps_beside : {A : Type 0} (m : State → Meaning A) (old new : KernelState) (r : Result A Refusal)
     (before after : List (List ℕ)) → Step (m (machine_of before old)) (machine_of before old) r (machine_of after new)
     → StepsBeside m old r new
@@ -37,7 +38,7 @@ steps_beside m old new r before after step = record {
       (sym (with_slots-same new after)) step);
 }
 
--- what lies in memory stays there, so the store still has the same bytes under clean extents
+-- live buffers are unchanged, so the store still has the same bytes under clean extents
 pub backed_stays : (disk : Disk) (old new : KernelState) → IsSound old → IsSound new → new.cache ≡ old.cache
     → Stays old.store new.store → IsBackedBy disk old → IsBackedBy disk new
 backed_stays disk old new sound after same stays backed =

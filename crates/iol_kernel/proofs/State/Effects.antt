@@ -1,4 +1,4 @@
--- What the effects of the calls are made of: a change of what is held, as the machine sees it, and that it stays sound.
+-- The parts of the effects of calls: a change of the held slices, as the machine sees it, and the invariant after it.
 use Rattle.std.proofs.Common.{◌≡◌, ℕ, ◌+◌, ◌<◌, ◌≤◌, List, [], ◌∷◌, ◌++◌, length, map, ap, ◌∙◌, refl, sym, subst, arith}
 use Rattle.std.proofs.Common.{Option, Some, true, false}
 use Rattle.std.specs.Prelude.{MatchOption, None, Err, nat_lt, ◌||◌}
@@ -128,7 +128,7 @@ few_numbers f h d made given few =
         → m + made ≤ 18446744073709551615
     within n m few = grind (arith, nat_tests, few)
 
--- one more, in a table that is as it was
+-- one more aggregate, in an unchanged table
 pub few_kept : (h : KernelState) (d : ℕ) {ds : List (Domain (List Slice))}
     → aggs.too_many_aggs (machine_of [] h) d 1 0 ≡ false → ds ≡ h.domains
     → (domain_in ds d).next_agg + 1 ≤ 18446744073709551615
@@ -153,16 +153,16 @@ few_aggs f h d made given few =
         → n + made ≤ 65536 + given
     within n m few = grind (arith, nat_tests, few)
 
--- the store goes on
+-- steps of the store
 
--- what is held is read as it was
+-- held slices have the same bytes
 pub moved-read : (s : Stored) (k : KernelState) → Stays s k.store → AreHeld k.store k.domains (objects_of k)
     → AllByRecursion (IsDomainReadable s) k.domains → AreReadable s (objects_of k) → (stored : List (List ℕ))
     → machine_of stored k ≡ read_of (bytes_over stored s) k
 unfolding read_of
 moved-read s k stays held e o stored = view-stays s k.store stays k.domains (objects_of k) held k.store.pools e o stored
 
--- a change of the tables that is the same whatever is read, while the store goes on
+-- a change of the tables that is the same for each reading, with a step of the store
 pub leaves : (after : State → State) (h k : KernelState) → ((f : Reading) → read_of f k ≡ after (read_of f h))
     → k.sums ≡ h.sums → k.cache ≡ h.cache
     → Stays h.store k.store → KeepsPages h.store k.store [] → AllByRecursion (IsDomainReadable h.store) k.domains
@@ -246,7 +246,7 @@ same_lists : (h k : KernelState) → (machine_of [] k).pools ≡ (machine_of [] 
 unfolding read_of state_view
 same_lists h k same = same
 
--- one change after another: the first leaves the pools as the machine sees them
+-- one change after another: the first leaves the machine's pools unchanged
 pub leaves_then : (m n : State → State) (h k l : KernelState) → ((s : State) → (m s).pools ≡ s.pools) → Leaves m h k
     → Leaves n k l → Leaves (λ s. n (m s)) h l
 leaves_then m n h k l pools one two = record {
@@ -260,7 +260,7 @@ leaves_then m n h k l pools one two = record {
   stays = stays_trans one.stays two.stays;
 }
 
--- the same change, said in other words
+-- the same change, in another form
 pub leaves_as : (m n : State → State) (h k : KernelState) → ((f : Reading) → m (read_of f h) ≡ n (read_of f h))
     → Leaves m h k → Leaves n h k
 leaves_as m n h k same one = record {
@@ -355,7 +355,7 @@ placed-sound h t ds d text placed sound live few small adds =
     (omega (arith, small, ap length adds.is_text, length-text_of t adds.slices)) adds.readable adds.moves
     (adds.reclaims sound.reclaimed) adds.pools adds.pages.count adds.added
 
--- nothing else changes, whatever is read
+-- nothing else changes, for each reading
 pub placed_alone : (h : KernelState) (t : Stored) (ds : List (Domain (List Slice))) (d pool n : ℕ) (text : Text)
     → IsSound h → AddsText h.store t h.domains ds d text (lowest_of h.store pool n)
     → MakesAgg d pool n h (record h { store = t; domains = ds })
@@ -368,7 +368,7 @@ placed_alone h t ds d pool n text sound adds = record {
   pages = adds.pages;
 }
 
--- a domain gives an aggregate up
+-- a domain releases an aggregate
 
 module _ (h : KernelState) (t : Stored) (ds : List (Domain (List Slice))) (d a : ℕ) (xs : List Slice)
     (sound : IsSound h) (live : (domain_in h.domains d).live ≡ true) (found : Some xs ≡ agg_in h.domains d a)
@@ -410,7 +410,7 @@ module _ (h : KernelState) (t : Stored) (ds : List (Domain (List Slice))) (d a :
       (subst (λ (ys : List (Domain (List Slice))). AllByRecursion (IsDomainReadable h.store) ys) (sym rest)
       (drop_readable h d a sound)) sound.objects dropped-sound
 
--- pools come and go; nothing is placed and nothing given up
+-- pools are added or closed; no bytes are placed, and no references released
 
 module _ (h : KernelState) (t : Stored) (sound : IsSound h) (moves : Moves h.store t [] [])
     (reclaims : AllReclaimed h.store → AllReclaimed t) (pages : KeepsPages h.store t []) where

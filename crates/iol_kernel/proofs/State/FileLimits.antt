@@ -1,4 +1,4 @@
--- Ends and limits, where what is in memory of files changes.
+-- Ends and limits, when the extents of files change.
 use Rattle.std.proofs.Common.{◌≤◌, List, Option, length}
 use Rattle.std.specs.List.{AllByRecursion}
 use Rattle.iol_core.specs.State as machine
@@ -11,7 +11,7 @@ use Rattle.iol_kernel.specs.KernelState.{AreLimited, IsFile, IsOpenEnd}
 use Rattle.iol_kernel.specs.Views.{Objects}
 use Rattle.iol_kernel.proofs.State.Sound.{each-weaker}
 
--- what was open on an open end is so still
+-- descriptors on open ends stay so
 pub ends_weaker : (o p : Objects (List Slice)) (ds : List (Domain (List Slice)))
     → ((x : Option Descriptor) → IsOpenEnd o x → IsOpenEnd p x)
     → AllByRecursion (λ d. AllByRecursion (IsOpenEnd o) d.fds) ds

@@ -1,4 +1,4 @@
--- New bytes lie at the end of a queue, and the store went on from h's to t.
+-- New bytes at the end of a queue; the store was h's and is t.
 use Rattle.std.proofs.Common.{◌≡◌, ℕ, ◌+◌, ◌≤◌, List, length, ap, sym, subst, arith, Option, take}
 use Rattle.std.specs.List.{AllByRecursion}
 use Rattle.std.proofs.lemmas.List.{length-map, length-take}
@@ -64,7 +64,7 @@ module _ (h : KernelState) (t : Stored) (old q : List Slice) (pool : ℕ) (bytes
     tally-append b (bufs_of old) (bufs_of adds.slices),
   )
 
-  -- what lay before is read as it was
+  -- the bytes of the old slices are unchanged
   pub added-read : (stored : List (List ℕ)) → read_of (bytes_over stored t) h ≡ machine_of stored h
   unfolding read_of
   added-read stored =

@@ -1,4 +1,4 @@
--- What a new kernel stands for, and that it is sound.
+-- The machine's state of a new kernel, and its invariant.
 use Rattle.std.proofs.Common.{◌<◌, inl, inr, ◌≡◌, ℕ, zero, suc, List, [], ◌∷◌, length, get_or, refl, sym, subst}
 use Rattle.std.proofs.Common.{replicate, arith, ap, ◌∙◌}
 use Rattle.std.specs.Prelude.{Option, Result, Ok, Err, ◌↔◌}
@@ -51,7 +51,7 @@ every zero i x = refl
 every (suc n) zero x = refl
 every (suc n) (suc i) x = every n i x
 
--- in a new store nothing is held
+-- in a new store no buffer is held
 none_held : (s : Stored) (n : ℕ) → s.arena.entries ≡ replicate n no_entry → (b : BufId) → count_of s b ≡ 0
 unfolding count_of
 none_held s n e b =

@@ -1,4 +1,4 @@
--- Lists under rising numbers, of which one entry changes or goes.
+-- Lists with increasing numbers, of which one entry changes or is removed.
 use Rattle.std.proofs.Common.{◌≡◌, ◌≢◌, ℕ, ◌+◌, ◌<◌, ◌≤◌, ◌==◌, Bool, List, [], ◌∷◌, ◌++◌, length, map, ap, ◌∙◌, refl}
 use Rattle.std.specs.List.{AllByRecursion}
 use Rattle.std.proofs.Common.{sym, subst, arith, Some, None, true, false, inl, inr}
@@ -34,7 +34,7 @@ lookup_later e es n k = grind (arith, nat_tests, k)
 some_is : {A : Type 0} (x y : A) → Some x ≡ Some y → x ≡ y
 some_is x y e = cc
 
--- what is found
+-- look-ups
 
 pub lookup-changed : {A : Type 0} (es : List (ℕ × A)) (n : ℕ) (x y : A) → lookup es n ≡ Some x
     → lookup (changed es n y) n ≡ Some y
@@ -120,7 +120,7 @@ changed-map {A} {B} g (e ∷ es) n y =
           ∙ sym (changed_later {A = B} (e.0, g e.1) (map (λ e. (e.0, g e.1)) es) n (g y) k)
     ]
 
--- their numbers rise still
+-- their numbers still increase
 
 pub rises-map : {A B : Type 0} (g : A → B) (es : List (ℕ × A)) (from to : ℕ) → Rises from es to
     → Rises from (map {B = ℕ × B} (λ e. (e.0, g e.1)) es) to
@@ -161,7 +161,7 @@ pub rises-push : {A : Type 0} (es : List (ℕ × A)) (from to : ℕ) (x : A) →
 rises-push [] from to x rises = (rises, omega arith)
 rises-push (e ∷ es) from to x rises = (rises.0, rises-push es (e.0 + 1) to x rises.1)
 
--- none has the next number
+-- no entry has the next number
 rises_to : {A : Type 0} (es : List (ℕ × A)) (from to : ℕ) → Rises from es to → from ≤ to
 rises_to [] from to rises = rises
 rises_to (e ∷ es) from to rises = let first = rises.0 in omega (arith, first, rises_to es (e.0 + 1) to rises.1)
@@ -172,7 +172,7 @@ lookup_above (e ∷ es) from to rises =
     lookup_later e es to (λ i. absurd (omega (arith, i, rises_to es (e.0 + 1) to rises.1)))
     ∙ lookup_above es (e.0 + 1) to rises.1
 
--- what holds of each
+-- facts of each entry
 
 pub each-changed : {A : Type 0} (P : ℕ × A → Type 0) (es : List (ℕ × A)) (n : ℕ) (y : A) → AllByRecursion P es
     → P (n, y)

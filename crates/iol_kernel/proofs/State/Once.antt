@@ -31,7 +31,7 @@ pub once_fewer : (ds : Domains) (d : ℕ) (x : Domain (List Slice)) → (domain_
 once_fewer ds d x live fewer once =
     record { each = λ e. omega (arith, once.each e, fewer e, ends-with_domain e ds d x live) }
 
--- they stay, whatever else changes
+-- they are unchanged, whatever else changes
 pub once_same : (ds : Domains) (d : ℕ) (x : Domain (List Slice)) → (domain_in ds d).live ≡ true
     → x.fds ≡ (domain_in ds d).fds → IsOpenOnce ds → IsOpenOnce (with_domain_in ds d x)
 once_same ds d x live same once = once_fewer ds d x live (λ e. omega (arith, ap (ends_on e) same)) once

@@ -1,4 +1,4 @@
--- Pools come, close and lose chunks; those of connections stay open.
+-- Pools are added, are closed and lose chunks; those of connections and files stay open.
 use Rattle.std.proofs.Common.{◌≡◌, ◌≢◌, ℕ, zero, suc, get_or, refl, Bool, ◌-◌, ◌<◌, ◌≤◌, ◌==◌, List, [], ◌∷◌, ◌++◌}
 use Rattle.std.proofs.Common.{length, length-append, map, ap, ◌∙◌, sym, subst, arith, true, false, inl, inr}
 use Rattle.std.specs.Prelude.{◌||◌}
@@ -33,7 +33,7 @@ pool_in-meant ps p = ap (λ (x : machine.Pool). x.closed) (numbered_or-map pool_
 abbrev IsOpen : List machine.Pool → (p : ℕ) → Type 0
 IsOpen ps p = (meant_in ps p).closed ≡ false
 
--- what is open of those that the machine has is open of others
+-- if the pools that are open for the machine stay open, those of connections and files do
 pooled_as : (ps qs : List Pool) (cs : List (ℕ × Conn (List Slice))) (fs : List CachedFile)
     → ((p : ℕ) → IsOpen (map pool_meant ps) p → IsOpen (map pool_meant qs) p) → length qs ≤ 1024 → ArePooled ps cs fs
     → ArePooled qs cs fs
@@ -47,7 +47,7 @@ pooled_as ps qs cs fs keeps few pooled = record {
       ∙ keeps (file_in fs n).pool (pool_in-meant ps (file_in fs n).pool ∙ pooled.files_open n there);
 }
 
--- lists that the machine cannot tell apart
+-- lists that are the same for the machine
 pub same_pooled : (s t : Stored) (cs : List (ℕ × Conn (List Slice))) (fs : List CachedFile) → SameLists s t
     → ArePooled s.pools cs fs → ArePooled t.pools cs fs
 same_pooled s t cs fs lists pooled =
@@ -98,7 +98,7 @@ one_more_pool s t cs fs x added few pooled =
       length-map' pool_meant t.pools,
     )) pooled
 
--- the list of one names a domain more
+-- the list of one pool names one more domain
 pub one_admitted : (ps : List Pool) (p d : ℕ) (cs : List (ℕ × Conn (List Slice))) (fs : List CachedFile)
     → is_numbered ps p ≡ true → ArePooled ps cs fs → ArePooled (with_admitted ps p d) cs fs
 one_admitted ps p d cs fs there pooled =
@@ -106,7 +106,7 @@ one_admitted ps p d cs fs there pooled =
     ∙ closed-admitted ps p d q there ∙ sym (pool_in-meant ps q) ∙ is)
     (omega (arith, pooled.few, length-admitted ps p d)) pooled
 
--- one closes, which no connection is of
+-- one that no connection is of is closed
 
 others_open : (ps : List Pool) (p : ℕ) (cs : List (ℕ × Conn (List Slice))) → list_any (λ e. e.1.pool == p) cs ≡ false
     → AllByRecursion (λ e. (pool_in ps e.1.pool).closed ≡ false) cs

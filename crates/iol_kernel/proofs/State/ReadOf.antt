@@ -1,4 +1,4 @@
--- What a state stands for, word by word, whatever is read at its places.
+-- The parts of the machine's state that a kernel represents, for each reading of its places.
 use Rattle.std.proofs.Common.{◌≡◌, ℕ, ◌==◌, List, [], length, ap, ◌∙◌, refl, sym, Option, Some, None, true, false}
 use Rattle.std.specs.Prelude.{unwrap_or, option_map, Bool, ◌||◌}
 use Rattle.std.specs.List.{list_any, list_all}
@@ -77,7 +77,7 @@ pub length_pools-read_of : (f : Reading) (h : KernelState) → length (read_of f
 unfolding read_of
 length_pools-read_of f h = length_pools-view f h.domains h.store.pools (objects_of h)
 
--- what no file and no connection is of
+-- no file and no connection is of the pool
 pub idle_held : (f : Reading) (h : KernelState) (p : ℕ) → pools.is_busy (read_of f h) p ≡ false
     → (list_any (λ x. x.pool == p) h.files || list_any (λ e. e.1.pool == p) h.conns) ≡ false
 unfolding read_of
@@ -138,7 +138,7 @@ taken_pipes-read_of f h = taken-view f h.domains h.store.pools (objects_of h)
 
 pub ruleset pipe_rules = (length_queue-read_of, reading-read_of, writing-read_of)
 
--- A domain's row, where its descriptor is open on something.
+-- A domain's row, if its descriptor is open.
 
 pub open_row : {h : KernelState} {d fd : ℕ} {end : Descriptor} → IsOpenOn h d fd end
     → (domain_in h.domains d).live ≡ true

@@ -17,7 +17,7 @@ use Rattle.iol_kernel.specs.Readings.{Reading, bytes_over}
 use Rattle.iol_kernel.proofs.State.TableCalls.{refusal_of}
 use Rattle.iol_kernel.proofs.State.Stay.{pages_here, stays_here}
 
--- what lies at a place depends on the pages alone
+-- the byte at a place depends on the arena only
 pub byte_at-arena : (s t : Stored) → t.arena ≡ s.arena → byte_at t ≡ byte_at s
 byte_at-arena s t e = ap (λ (a : arena.State). byte_at (with_arena s a)) e
 
@@ -66,7 +66,7 @@ module _ {A : Type 0} (m : State → Meaning A) (h : KernelState) (x : Refusal) 
     stays = stays_here h.store;
   }
 
--- A call that has passed its tests: done, or refused for want of memory, which changes nothing.
+-- A call that has passed its tests: it is done, or it is refused for lack of memory and changes nothing.
 
 module _ {A : Type 0} (m : State → Meaning A) (h k : KernelState) (passed : (f : Reading)
     → first (m (read_of f h)).refusals ≡ None) where

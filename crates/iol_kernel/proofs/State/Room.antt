@@ -1,4 +1,4 @@
--- Clean extents of files give way: what the kernel's state is then.
+-- Clean extents of files are evicted: the state of the kernel after that.
 use Rattle.std.proofs.Common.{◌≡◌, ℕ, suc, ◌<◌, ◌∙◌, List, [], ◌∷◌, length, get_or, map, Option, Some, refl, sym, ap}
 use Rattle.std.proofs.Common.{subst, arith}
 use Rattle.std.proofs.lemmas.Bool.Decides.{nat_tests}
@@ -50,7 +50,7 @@ same_pools (x ∷ fs) (y ∷ gs) len same =
     ap (λ p. p ∷ map (λ (z : CachedFile). z.pool) gs) (same 0 (omega arith))
     ∙ ap (λ ps. x.pool ∷ ps) (same_pools fs gs (omega (arith, len)) (λ i there. same (suc i) (omega (arith, there))))
 
--- An end that is open is so whatever is in memory of files.
+-- An open end stays open, whichever extents files have.
 pub ends_recached : (qs : Objects (List Slice)) (fs : List CachedFile) (e : Option Descriptor) → IsOpenEnd qs e
     → IsOpenEnd (record qs { cached = fs }) e
 ends_recached qs fs (Some (on.File f at mode)) is = is
@@ -61,7 +61,7 @@ module _ (h : KernelState) (t : Stored) (c : Cached) (sound : IsSound h) (kept :
   abbrev k : KernelState
   k = record h { store = t; cache = c }
 
-  -- what is held beside files
+  -- the objects, without extents
   abbrev beside_files : Objects (List Slice)
   beside_files = record (objects_of h) { cached = [] }
 
@@ -118,7 +118,7 @@ module _ (h : KernelState) (t : Stored) (c : Cached) (sound : IsSound h) (kept :
         cached = kept;
       }
 
-  -- Nothing is read elsewhere but files.
+  -- For each reading, only the bytes of files change.
   room-read : (f : Reading) → read_of f k ≡ record (read_of f h) { slots = (read_of f k).slots }
   unfolding read_of state_view
   room-read f = ap (λ (ps : List machine.Pool). record (read_of f k) { pools = ps }) gone.lists

@@ -1,4 +1,4 @@
--- A table in which one domain changes, looked up or changed once more.
+-- A table in which one domain changes, and then is looked up or changes again.
 use Rattle.std.proofs.Common.{◌≡◌, ◌≢◌, ℕ, ◌-◌, ◌<◌, ◌≤◌, List, length, ap, ◌∙◌, arith, inl, inr, true}
 use Rattle.std.proofs.lemmas.Bool.{cases_lt, cases_eq}
 use Rattle.std.proofs.lemmas.Bool.Decides.{nat_tests}

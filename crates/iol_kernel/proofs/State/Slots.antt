@@ -1,4 +1,4 @@
--- The files' extents as the store goes on.
+-- The files' extents over a step of the store.
 use Rattle.std.proofs.Common.{◌≡◌, ℕ, ◌-◌, ◌*◌, ◌≤◌, List, [], ◌∷◌, ◌++◌, length, map, refl, sym, ap, ◌∙◌, subst, arith}
 use Rattle.std.proofs.Common.{inl, inr, true, false}
 use Rattle.std.specs.Prelude.{slice_index, sum_by}
@@ -36,7 +36,7 @@ use Rattle.iol_kernel.specs.HoldCounts.{uses}
 use Rattle.iol_kernel.specs.KernelState.{IsFile, IsFileReadable, IsCached}
 use Rattle.iol_kernel.specs.Readings.{Reading, bytes_over, slot_read, slots_of, slots_read}
 
--- what is held stays where it lies
+-- the bytes of extents can still be read
 pub file_stays : (s t : Stored) (fs : List CachedFile) (n : ℕ) → Stays s t → Covers t (held fs) → IsFileReadable s fs n
     → IsFileReadable t fs n
 file_stays s t fs n stays covers there =
@@ -84,7 +84,7 @@ pub none_there : {A : Type 0} (xs : List A) (n : ℕ) → xs ≡ [] → is_numbe
 none_there xs n is there = let bounds = numbered_bounds xs n there in
     absurd (omega (arith, bounds.0, bounds.1, ap length is))
 
--- a file of which nothing is in memory has what is stored
+-- a file without extents has the stored bytes
 pub file_bytes-none : (g : Place → ℕ) (bytes : List ℕ) → file_bytes g bytes [] ≡ bytes
 file_bytes-none g bytes = (λ i. map (slice_index bytes) (range_with_len 0 (len i))) ∙ all_of bytes
   where

@@ -1,4 +1,4 @@
--- What keeps a system sound, and what stays as the store goes on.
+-- The invariant of a system, and the facts that a step of the store leaves unchanged.
 use Rattle.std.proofs.Common.{◌≡◌, ℕ, zero, suc, ◌+◌, ◌-◌, ◌<◌, ◌≤◌, List, [], ◌∷◌, ◌++◌, length, map, ap, ◌∙◌, refl}
 use Rattle.std.specs.List.{AllByRecursion}
 use Rattle.std.proofs.Common.{sym, subst, arith, Option, Some, None, inl, inr, get_or, true, length-append}
@@ -80,7 +80,7 @@ map-kept P Q f g [] same e k = refl
 map-kept P Q f g (x ∷ xs) same e k = ap (λ y. y ∷ map f xs) (same x e.0 k.0)
     ∙ ap (λ ys. g x ∷ ys) (map-kept P Q f g xs same e.1 k.1)
 
--- What is counted is covered.
+-- Counted slices are covered.
 
 abbrev IsAggCovered : Stored → (ℕ × List Slice) → Type 0
 IsAggCovered s e = Covers s (bufs_of e.1)
@@ -132,7 +132,7 @@ conns_covered s (x ∷ cs) h = (
   conns_covered s cs (λ b. (let c = sum_by-cons (conn_uses b) x cs in omega (arith, c, h b))),
 )
 
--- The store goes on, and all these are still held.
+-- The store makes a step, and all these slices are still held.
 
 pub record AreHeld (s : Stored) (ds : List (Domain (List Slice))) (qs : Objects (List Slice)) : Type 0 where
   pub each : (b : BufId) → all_uses ds qs b ≤ count_of s b
@@ -205,7 +205,7 @@ module _ (old new : Stored) (m : Stays old new) (ds : List (Domain (List Slice))
       ∙ ap {B = ℕ × machine.Connection} (λ (t : Text). (x.0, record (conn_view (text_of old) x.1) { outgoing = t }))
       (text_stays x.1.outgoing m k.1 e.1)
 
-  -- so the machine has what it had
+  -- so the machine's state is unchanged
   pub view-stays : (ps : List Pool) → AllByRecursion (IsDomainReadable old) ds → AreReadable old qs
       → (stored : List (List ℕ))
       → state_view (bytes_over stored new) ds ps qs ≡ state_view (bytes_over stored old) ds ps qs
@@ -263,7 +263,7 @@ pub each-with_domain_in : (P : Domain (List Slice) → Type 0) (ds : List (Domai
 unfolding with_domain_in
 each-with_domain_in P ds d x e p = each-with_numbered P ds d x e p
 
--- what a domain of a sound state has
+-- facts of a domain in a sound state
 
 pub aggs_readable : (h : KernelState) (d : ℕ) → IsSound h → IsDomainReadable h.store (domain_in h.domains d)
 aggs_readable h d sound = each-domain_in (IsDomainReadable h.store) h.domains d sound.domains tt
@@ -339,7 +339,7 @@ pub sound_fds : (h : KernelState) (d : ℕ) (xs : List (Option Descriptor)) → 
 sound_fds h d xs sound live fds once =
     sound_with h d (record (domain_in h.domains d) { fds = xs }) sound live refl fds once
 
--- limits, when a domain gets an aggregate, or gives one up
+-- limits, when a domain gets an aggregate, or releases one
 
 pub limits_agg : (ds : List (Domain (List Slice))) (qs : Objects (List Slice)) (d : ℕ) (xs : List Slice)
     → IsLimited ds qs → (domain_in ds d).live ≡ true → byte_len xs ≤ MAX_AGGREGATE_BYTES

@@ -1,4 +1,4 @@
--- Buffers that are live before and after a call stay as they were.
+-- Buffers that are live before and after a call are unchanged.
 use Rattle.std.proofs.Common.{◌≡◌, [], refl, subst, sym}
 use Rattle.iol_hold.specs.StoreState.{Stored}
 use Rattle.iol_hold.specs.Moves.{Stays}
@@ -9,7 +9,7 @@ use Rattle.iol_hold.proofs.PageChanges.{keeps_pages_same}
 pub stays_here : (s : Stored) → Stays s s
 stays_here s = (moves_none s).stays
 
--- a store that is as it was
+-- an unchanged store
 pub stays_equal : (s t : Stored) → t ≡ s → Stays s t
 stays_equal s t e = subst (Stays s) (sym e) (stays_here s)
 

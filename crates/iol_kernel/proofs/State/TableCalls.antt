@@ -1,4 +1,4 @@
--- The answer of a call that changes tables alone, or also who holds which buffers.
+-- The answer of a call that changes only tables, or also the references to buffers.
 use Rattle.std.proofs.Common.{◌≡◌, List, ap, ◌∙◌}
 use Rattle.std.specs.Prelude.{Result, Ok, Err}
 use Rattle.iol_core.specs.State.{State}
@@ -15,7 +15,7 @@ use Rattle.iol_kernel.proofs.State.Stay.{stays_equal}
 
 module _ {A : Type 0} (m : State → Meaning A) (h k : KernelState) (a : A) (sound : IsSound k) (sums : k.sums ≡ h.sums)
     (cache : k.cache ≡ h.cache) (answer : (f : Reading) → a ≡ (m (read_of f h)).answer) where
-  -- the store stays
+  -- the store is unchanged
   pub answers_here : k.store ≡ h.store → ((f : Reading) → read_of f k ≡ (m (read_of f h)).after) → Answers m h a k
   answers_here store after = record {
     answer = λ f keeps. answer f;
@@ -28,7 +28,7 @@ module _ {A : Type 0} (m : State → Meaning A) (h k : KernelState) (a : A) (sou
     stays = stays_equal h.store k.store store;
   }
 
-  -- holds change, and no page does
+  -- references change, and no page does
   pub answers_shared : {taken given : List BufId} → Shares h.store k.store taken given
       → ((f : Reading) → KeepsPools f → read_of f k ≡ (m (read_of f h)).after) → Answers m h a k
   answers_shared shares after = record {
@@ -42,7 +42,7 @@ module _ {A : Type 0} (m : State → Meaning A) (h k : KernelState) (a : A) (sou
     stays = (shares_move shares).stays;
   }
 
--- the same effect, as another call means it
+-- the same effect, as the meaning of another call
 pub answers_as : {A : Type 0} (m n : State → Meaning A) (h k : KernelState) (a : A)
     → ((f : Reading) → (m (read_of f h)).answer ≡ (n (read_of f h)).answer)
     → ((f : Reading) → (m (read_of f h)).after ≡ (n (read_of f h)).after) → Answers m h a k → Answers n h a k
@@ -57,11 +57,11 @@ answers_as m n h k a answer after one = record {
   stays = one.stays;
 }
 
--- an effect that may want memory, done
+-- an effect that may need memory, done
 pub attempted : {A E : Type 0} {m : State → Meaning A} {h k : KernelState} {a : A} → Answers m h a k
     → Attempts {E = E} m h (Ok a) k
 attempted done = record { done = done; err = tt }
 
--- which refusal it is
+-- the refusal of a result
 pub refusal_of : {A : Type 0} (x y : Refusal) → ◌≡◌ {A = Result A Refusal} (Err x) (Err y) → x ≡ y
 refusal_of x y e = cc e

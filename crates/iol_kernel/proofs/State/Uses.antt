@@ -81,7 +81,7 @@ one_of_all w ds d lo hi =
     let g : numbered_or ds d no_domain ≡ get_or ds (d - 1) no_domain = grind (arith, nat_tests, lo) in
     omega (arith, e, ap w g)
 
--- a sum over domains, where one changes
+-- a sum over domains, of which one changes
 pub sum-with_domain : (w : Domain (List Slice) → ℕ) (ds : Domains) (d : ℕ) (x : Domain (List Slice))
     → (domain_in ds d).live ≡ true → sum_by w (with_domain_in ds d x) + w (domain_in ds d) ≡ sum_by w ds + w x
 sum-with_domain w ds d x live = let n = live_numbered ds d live in changed_sum w ds d x n.0 n.1
@@ -158,7 +158,7 @@ uses-set_pipe b qs p x there =
     let e = sum_by-set (pipe_uses b) qs p (Some x) none there in
     omega (arith, e, uses_at b qs p)
 
--- Of those that are counted.
+-- Slices of counted holders are covered.
 
 pub agg_covered : (s : Stored) (ds : Domains) (qs : Objects (List Slice)) (d a : ℕ) (xs : List Slice)
     → IsCounted s ds qs → (domain_in ds d).live ≡ true → Some xs ≡ agg_in ds d a → Covers s (bufs_of xs)
@@ -174,7 +174,7 @@ queue_covered s ds qs p counted there = record {
       get_or-le-sum_by (pipe_uses b) qs.pipes p none there in omega (arith, e, uses_at b qs.pipes p, counted.each b));
 }
 
--- How many there can be.
+-- The greatest number of references.
 
 aggs_few : (b : BufId) (es : List (ℕ × List Slice)) → AllByRecursion (λ e. byte_len e.1 ≤ MAX_AGGREGATE_BYTES) es
     → sum_by (λ e. uses b e.1) es ≤ MAX_AGGREGATE_BYTES * length es
@@ -224,7 +224,7 @@ all_few b ds qs limits =
       o.few_files,
     )
 
--- holds more on an aggregate or queue within the limits
+-- more references, of one aggregate or queue, can be counted
 pub countable : (s : Stored) (ds : Domains) (qs : Objects (List Slice)) (xs : List Slice) → IsCounted s ds qs
     → IsLimited ds qs → byte_len xs ≤ MAX_AGGREGATE_BYTES → IsCountable s (bufs_of xs)
 countable s ds qs xs counted limits small =

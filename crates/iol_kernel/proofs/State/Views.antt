@@ -1,4 +1,4 @@
--- What the tables stand for, word by word.
+-- The tables of the machine that those of a kernel represent, one by one.
 use Rattle.std.proofs.Common.{inl, inr, ◌≡◌, ℕ, suc, ◌+◌, ◌-◌, List, [], ◌∷◌, ◌++◌, length, map, ap, ◌∙◌, refl, sym}
 use Rattle.std.proofs.Common.{arith, Option, Some, None, true, false}
 use Rattle.std.specs.List.{list_any}
@@ -138,7 +138,7 @@ without_agg-view f ds ps qs d a =
     ∙ ap (λ (y : Domain Text). machine.with_domain (state_view f ds ps qs) d (record y { aggs = without y.aggs a }))
     (sym (domain-view f ds ps qs d))
 
--- pools that the machine cannot tell from others
+-- pools that are the same for the machine
 pub pools-view : (f : Reading) (ds : List (Domain (List Slice))) (ps rs : List Pool) (qs : Objects (List Slice))
     → map pool_meant rs ≡ map pool_meant ps → state_view f ds rs qs ≡ state_view f ds ps qs
 unfolding state_view
@@ -286,7 +286,7 @@ pub busy-view : (f : Reading) (ds : List (Domain (List Slice))) (ps : List Pool)
 unfolding state_view
 busy-view f ds ps qs p = ap (λ b. list_any (λ x. x.pool == p) qs.files || b) (any-map (read f) qs.conns p)
 
--- a pipe stays where an end is open
+-- a pipe stays if one of its ends is open
 kept_or_gone : {A : Type 0} (g : A → Text) (x : Pipe A) (k : Bool)
     → option_map (pipe_view g) (if k then Some x else None) ≡ (if k then Some (pipe_view g x) else None)
 kept_or_gone g x true = refl

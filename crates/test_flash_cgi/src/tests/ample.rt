@@ -29,7 +29,7 @@ const LINES: [(usize, bool); 2] = [(32_768, true), (32_769, false)];
 
 const NAMES: [(usize, bool); 2] = [(255, true), (256, false)];
 
-// Returns whether a text is a script or not, as wanted.
+// Returns whether a text is a script or not, as expected.
 fn is_read(alloc: Global, text: &[u8], wanted: bool) -> Result<bool, AllocError> {
     let script = Script::read(alloc, text)?;
     Ok(script.is_some() == wanted)

@@ -100,7 +100,7 @@ fn fills_work(host: &mut Host, heads: Vec<Event>) -> bool {
     !host.quiesce() && host.is_resource_failure()
 }
 
-// The second client finds no page before the first one is gone.
+// The second client finds no free page before the first one has left.
 fn work_waits(host: &mut Host, heads: Vec<Event>, whole: Vec<Event>, again: Vec<Event>) -> bool {
     connect_two(host)
         && fills_work(host, heads)

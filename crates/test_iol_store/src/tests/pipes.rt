@@ -72,7 +72,7 @@ fn front<R: Abort>(
     len
 }
 
-// Takes bytes off, whoever may read them, and returns whether there were so many.
+// Takes bytes off, whoever may read them, and returns whether there were that many.
 fn takes<R: Abort>(rt: &R, alloc: Global, store: &mut Store, pipe: &mut Pipe, n: u32) -> bool
     requires { IsHeldBy store.old (bufs_of pipe.old) }
 {

@@ -40,7 +40,7 @@ fn pass(system: &mut System<MemoryBacking>, calls: Vec<Call>) -> bool {
     all
 }
 
-// Whether domain 2 reads these bytes, where they lie.
+// Whether domain 2 reads these bytes, in their places.
 fn reads(system: &System<MemoryBacking>, bytes: &[u8]) -> bool {
     match system.parts(DomainId::new(2), AggId::new(1)) {
         Ok(mut parts) => parts.all(|part| part == bytes),

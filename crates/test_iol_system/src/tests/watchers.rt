@@ -31,7 +31,7 @@ fn connects(watchers: &mut Watchers) -> bool {
 }
 
 // Two connections are waiting: after two turns each, watchers have not accepted both, and later
-// none is waiting.
+// no connection is waiting.
 fn accepts(watchers: &mut Watchers) -> bool {
     connects(watchers)
         && connects(watchers)

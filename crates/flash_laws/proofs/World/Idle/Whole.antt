@@ -67,7 +67,7 @@ module _ (site_contents : SiteContents) (worker_set : WorkerSet) (laws : AllLaws
     (all : AllFit site_contents worker_set m p clients process_slots) (all_owned : AreOwned m p clients)
     (workers : ℕ) (count : workers ≡ worker_set.count) (quiescent : WorkersAreQuiescent worker_set m process_slots)
     (blocked : AllBlock m server workers clients) where
-  -- a client that waits for a worker, while none is free
+  -- a client that waits for a worker while no worker is free
   record IsPassedOver (x : Client) : Type 0 where
     pub passed : may_go (has_free workers clients) x ≡ false
     pub some : 0 < worker_set.count

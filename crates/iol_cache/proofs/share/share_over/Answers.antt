@@ -20,7 +20,7 @@ use Rattle.iol_cache.proofs.RangeReads.SlicesOver.{over_next, parts_done, parts_
 use Rattle.iol_cache.proofs.share.share_over.Goals.{In-Err, In-Some}
 use Rattle.iol_cache.proofs.share.share_over.Goals as goal
 
--- so many bytes so far
+-- the number of bytes shared so far
 long : (xs ys : List Slice) (es : List Extent) (from at : ℕ) → places xs ≡ places ys ++ places_over es from at
     → byte_len xs ≡ byte_len ys + (at - from)
 long xs ys es from at e = ap length e ∙ length-append (places ys) (places_over es from at)
@@ -50,7 +50,7 @@ unreachable-requires c =
     (covered_over es c.loop-at.at
     (c.requires.covered.each c.loop-at.at c.loop-at.invariant.begun c.loop-at-test.true))
 
--- the extent over byte `at`, and what was shared before it
+-- the extent over byte `at`, and the slices shared before it
 module _ (c : In-Some) where
   abbrev over : Extent
   over = extent_of c.in-Some.begin c.in-Some.agg.now c.in-Some._dirty
@@ -119,7 +119,7 @@ add_range-requires-clause-countable c =
           );
     }
 
--- Refused, what was shared is as it was.
+-- The addition was refused: the references of the slices shared so far are unchanged.
 still : (c : In-Err)
     → Shares c.args.store.now c.add_range.new.store (bufs_of c.args.so_far) (bufs_of c.add_range.new.self)
 still c =

@@ -19,7 +19,7 @@ if-ok : {A B : Type 0} {P Q : A → Type 0} (r : Result A B) → IfOk r P → ((
 if-ok (Ok x) p f = f x p
 if-ok (Err e) p f = tt
 
--- what is hosted by harmless choices is right
+-- a run of harmless choices that hosts a site is right
 is-right : (law : HarmlessIsRight) (s : Site) (stored : List (List ℕ)) (xs : List Choice) (rs : List Reply) (turns : ℕ)
     (idle : Bool)
     (after : WorldState SystemState (Actor Worker)) → Hosts s (slots_of stored) xs rs turns idle (copied after)

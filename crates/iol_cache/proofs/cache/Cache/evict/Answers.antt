@@ -144,7 +144,7 @@ release-requires c =
     subst (λ xs. Covers c.args.store.now (bufs_of xs)) (sym parts)
     (covers_at fs c.args.file c.args.at there.extent there.begins c.requires.sound.covered)
 
--- what is evicted leaves the cache sound, and what was passed in use
+-- the eviction keeps the cache sound, and the extents that the search passed in use
 evicted : (old new : Holding) (f at : ℕ) (was now : Rank) (r s : Ranking) → IsSound old.store old.cache
     → Unmarks old.cache.marks new.cache.marks (parts_at old.cache.files f at)
     → r ≡ order_in old.cache.orders (file_in old.cache.files f).pool → s ≡ evicted_at r f at

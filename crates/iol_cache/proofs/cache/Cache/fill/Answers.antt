@@ -35,7 +35,7 @@ use Rattle.iol_cache.proofs.cache.Cache.fill.Given.{Over}
 use Rattle.iol_cache.proofs.cache.Cache.fill.Goals.{In-Ok}
 use Rattle.iol_cache.proofs.cache.Cache.fill.Goals as goal
 
--- What was made of a range of the file.
+-- The extents made for the gaps of a range: they begin at the gaps, can be marked, and have no entries yet.
 record Made (c : Cached) (f : ℕ) (m : ExtentMap) (gs : List Span) : Type 0 where
   pub begin : AllBeginAt m.extents gs
   pub within : AllWithin (length c.marks) m.extents

@@ -17,7 +17,7 @@ use Rattle.iol_cache.proofs.Evictions.Roomy.{sound_same}
 use Rattle.iol_cache.proofs.cache.Cache.make_place.Goals.{After-make_room}
 use Rattle.iol_cache.proofs.cache.Cache.make_place.Goals as goal
 
--- where there was no room, only what was reserved differs
+-- without room, only the reserved room differs
 refused_room : (s : Stored) (c reserved : Cached) (new : Holding) → SameButRoom c reserved
     → new ≡ record { store = s; cache = reserved } → LeavesAll (record { store = s; cache = c }) new
 refused_room s c reserved new same is =

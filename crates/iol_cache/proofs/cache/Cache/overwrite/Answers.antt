@@ -55,7 +55,7 @@ returns-in-Err c =
           e.lists e.given_back.pages.count;
     }
 
--- what was prepared for the file
+-- the prepared extents, for the file
 prepares : (c : In-Ok)
     → Prepares c.args.store.now c.prepare.new.store (file_in c.args.self.now.files.items c.args.file).pool
     (extents_in c.args.self.now.files.items c.args.file) c.args.at c.args.source.now c.in-Ok.prepared.left

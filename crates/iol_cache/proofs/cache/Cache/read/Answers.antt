@@ -27,7 +27,7 @@ use Rattle.iol_cache.proofs.cache.Cache.read.Given.{Over}
 use Rattle.iol_cache.proofs.cache.Cache.read.Goals.{After-pin, In_ok-pins}
 use Rattle.iol_cache.proofs.cache.Cache.read.Goals as goal
 
--- the range, and what it is read from
+-- the range, and the states that it is read from
 module _ (g : Over) (c : After-pin g) where
   abbrev disk : Disk
   disk = g.B.Backing.disk c.args.backing.now
@@ -42,7 +42,7 @@ module _ (g : Over) (c : After-pin g) where
   range = range_of disk old.cache c.args.file c.args.at c.args.count c.file_end-end.result c.min-from.result
       c.min.result c.file_end-end.ensures c.min-from.ensures c.min.ensures
 
--- Refused for want of memory, before anything was shared.
+-- Refused for lack of memory, before any slice was shared.
 
 room_unreported : {A : Type 0} (has lacks : Type 0) (r : Result A Refusal) → IsErrAnd r (λ y. y ≡ Memory)
     → ReportsRoom has lacks r
@@ -93,7 +93,7 @@ returns-in_err-pins g c =
       late = on_memory r (WantOfRoomOrFault p f) memory tt;
     }
 
--- What was in memory was shared.
+-- The bytes in memory were shared.
 abbrev shared : (g : Over) (c : In_ok-pins g) (gs : List Span) → gs ≡ c.in_ok-pins.gaps.items
     → HitsShared c.args.file c.args.at c.args.count (g.B.Backing.disk c.args.backing.now)
     (holding c.args.store.now c.args.self.now) (holding c.pin.new.store c.pin.new.self) c.in_ok-pins.pins gs

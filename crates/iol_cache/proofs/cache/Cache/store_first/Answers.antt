@@ -67,7 +67,7 @@ module _ (s : Stored) (c : Cached) (f : ℕ) (x : Extent) (sound : IsSound s c)
         });
   }
 
--- What was written back, or was not, keeps the bytes of each file, and the cache sound.
+-- A write-back, or its failure, leaves each file's bytes unchanged, and the cache sound.
 
 cleaned : (s : Stored) (f : ℕ) (old new : Cached) (d e : Disk) → IsSound s old → is_numbered old.files f ≡ true
     → Cleans s f old new d e → WritesFirst s f old new d e (Ok true)

@@ -23,7 +23,7 @@ still_there s f old new d e a there =
 true_false : true ≡ false → ⊥
 true_false h = cc
 
--- what holds after the first dirty extent was written back, or there was none
+-- the state after the first dirty extent was written back, or there was none
 after : (s : Stored) (f : ℕ) (old mid new : Cached) (d m e : Disk) → IsSound s old → IsSound s mid
     → is_numbered mid.files f ≡ true → Syncs s f old mid d m → m.failures ≡ d.failures
     → (b : Bool) → StoresFirst s f mid new m e (Ok b)
@@ -44,7 +44,7 @@ after s f old mid new d m e sound now there a fails false w =
       omega (arith, ap (λ (c : Cached). dirty_count (extents_in c.files f)) w.same),
     )
 
--- extents that were written back, and what the next step did
+-- the number of extents written back, after one more step
 one_more : (s : Stored) (f : ℕ) (old mid new : Cached) (d m e : Disk) → (n : ℕ) × AreCleaned s f n old mid d m
     → (b : Bool) → StoresFirst s f mid new m e (Ok b) → (n : ℕ) × AreCleaned s f n old new d e
 one_more s f old mid new d m e a true w = (suc a.0, (mid, m, a.1, w))
@@ -103,7 +103,7 @@ returns-in-Err g c =
       late = subst (FaultOf c.args.file) (sym e.stores.1) refl;
     }
 
--- what one step did, after those before it
+-- the state after one more step
 step : (g : Over) (c : In-Ok g) → let old = cached_of c.args.self.now in let mid = cached_of c.loop-more.self in
     let new = cached_of c.store_first.new.self in
     let d = g.B.Backing.disk c.args.backing.now in let e = g.B.Backing.disk c.store_first.new.backing in

@@ -192,7 +192,7 @@ returns-in-Ok c =
       sound = e.sound;
     }
 
--- Refused after room was made: the store went on, and the cache did not.
+-- Refused after room was made: the store made a step, and the cache did not change.
 
 stayed : (c : goal.In-Err-overwrite)
     → KeepsAll c.args.file (holding c.args.store.now c.args.self.now)
@@ -205,12 +205,12 @@ stayed c =
     (goes_all c.args.file old _ (λ d. goes_refused d _ _ _ _ t c.make_place.ensures.room c.make_place.ensures.sound
     e.none e.lists e.reclaims e.given_back.pages.count))
 
--- the file is of the pool that it was of
+-- the pool of the file is unchanged
 same_pool : (c : goal.In-Err-overwrite)
     → pool_of c.make_place.new.self c.args.file ≡ pool_of c.args.self.now c.args.file
 same_pool c = (let m = c.make_place.ensures.room in m.gives_up.keeps.pools c.args.file ∙ m.rooms.pools c.args.file)
 
--- there was room in it
+-- so the refusal is not NoRoom, because that many pages are free
 roomy : (c : goal.In-Err-overwrite) (q : ℕ)
     → ◌≡◌ {A = Result (Unit {0}) Refusal} (Err c.in-Err-overwrite.refusal) (Err (NoRoom q)) → ⊥
 roomy c q is =

@@ -55,7 +55,7 @@ gap_agg-requires g c =
           ∙ c.requires.opened;
     }
 
--- the gaps so far can be taken back
+-- the extents of the gaps filled so far can be taken back
 back : (g : Over) (c : In-Err g)
     → CanTakeBack c.loop-i.store c.args.extents.now.extents c.loop-i.extents.extents (take c.loop-i.i c.args.gaps.now)
     (bufs_of (all_parts c.loop-i.invariant.fills.made))
@@ -104,7 +104,7 @@ returns-in-Err g c =
           c.in-Err.ensures.asks) k.late;
     }
 
--- the next gap, and what is left of it
+-- the next gap, and the gaps after it
 next_gap : (g : Over) (c : In-Ok g)
     → (let i = c.loop-i.i in let gap = get_or c.args.gaps.now i no_span in
     (gap.from < gap.to) × AreInOrder gap.to 4294967295 (drop (i + 1) c.args.gaps.now))

@@ -21,7 +21,7 @@ no_span = record { from = 0; to = 0 }
 given_is : (o : Option Extent) (xs : List Slice) (e : Extent) → IfSome o (λ x. xs ≡ x.parts) → o ≡ Some e → xs ≡ e.parts
 given_is o xs e h is = subst (λ (o : Option Extent). IfSome o (λ x. xs ≡ x.parts)) is h
 
--- the slices that are given up next are held
+-- the slices that are released next are held
 covered : (s t : Stored) (es : List Extent) (gs : List Span) (n : ℕ) (xs back : List Slice)
     → Covers s (bufs_of (parts_back es gs)) → Moves s t (bufs_of back) []
     → bufs_of (parts_back es (drop n gs)) ≡ bufs_of back ++ bufs_of xs → Covers t (bufs_of xs)

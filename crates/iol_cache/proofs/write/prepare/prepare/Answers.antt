@@ -78,7 +78,7 @@ cut_right-requires-clause-may c =
           )) few;
     }
 
--- the part on the left, given up, where there is no memory for the one on the right
+-- the part on the left is released, if there is no memory for the part on the right
 shared : (c : In_default-cut_right) → Shares c.compose.new.store c.cut_right.new.store [] (bufs_of c.left.inside.agg)
 shared c =
     let is = ap (λ (x : Extent). x.parts) c.left.view_is in

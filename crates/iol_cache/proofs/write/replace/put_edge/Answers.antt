@@ -9,7 +9,7 @@ use Rattle.iol_cache.proofs.Evictions.Orders.{remembered_clean, remembered_dirty
 use Rattle.iol_cache.proofs.RangeWrites.Replacement.{absent_gap, clean_comes, dirty_comes}
 use Rattle.iol_cache.proofs.write.replace.put_edge.Goals as goal
 
--- what the code has of the edge
+-- the order after the edge, with the extent as the contract has it
 edge_is : (r t : Ranking) (f : ℕ) (x e : Extent) → x ≡ e → t ≡ remembered r f x → t ≡ remembered r f e
 edge_is r t f x e same is = is ∙ ap (remembered r f) same
 

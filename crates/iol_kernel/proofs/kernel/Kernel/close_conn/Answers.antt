@@ -18,7 +18,7 @@ close-requires-clause-covered c =
     incoming_covered h c.args.conn (conn_in h.conns c.args.conn) c.requires.sound
     (conn_in-found h.conns c.args.conn (open_conn-there h.conns c.args.conn c.requires.opened))
 
--- it is closed, whether or not it is forgotten then
+-- it is closed, whether or not it is removed then
 hung : (c : After-close)
     → IsChanged c.args.conn (λ s. closed_on s (Some (on.Connection c.args.conn))) (state_of c.args.self.now)
     (record (state_of c.args.self.now) {

@@ -7,7 +7,7 @@ use Rattle.iol_kernel.specs.KernelState.{KernelState}
 use Rattle.iol_kernel.proofs.Queues.ClosedEnds.{reader_closes, writer_closes}
 use Rattle.iol_kernel.proofs.kernel.Kernel.close_end.Goals as goal
 
--- an end is closed as what it is
+-- the same for an equal end
 closed_as : (h k : KernelState) (x y : Descriptor) → x ≡ y → (IsLetGo h y → Closes y h k) → IsLetGo h x → Closes x h k
 closed_as h k x y is closes free =
     subst (λ (z : Descriptor). Closes z h k) (sym is) (closes (subst (IsLetGo h) is free))

@@ -46,7 +46,7 @@ returns-in_err-test_read g c =
     (copies_refused held disk y (e.refused (bytes_over [] h.store)) e.early) in
     record { serves = done.serves; copies = done.copies; short = done.short }
 
--- what is known once the read passes its tests
+-- the read passed its tests
 held : (g : Over) (c : In_ok-test_read g)
     → IsOpenAt (state_of c.args.self.now) (read_at c.args.by c.args.fd c.args.found c.args.count)
 held g c = open_at (state_of c.args.self.now) c.args.by c.args.fd c.args.found c.args.count c.requires.sound

@@ -25,7 +25,7 @@ close_fds-requires c =
     (domain_in-changed h.domains k.domains c.args.by _ live c.drop_aggs.ensures.domains) ∙ live in
     record { sound = c.drop_aggs.ensures.dropped.sound; live = still }
 
--- what is left of it before it ends
+-- the domain's row before its end
 left_of : (h k l : KernelState) (d : ℕ) → (domain_in h.domains d).live ≡ true → k.domains ≡ with_aggs_in h.domains d []
     → l.domains ≡ with_fds_in k.domains d [] → domain_in l.domains d ≡ record (domain_in h.domains d) {
       aggs = [];

@@ -18,7 +18,7 @@ peer_closed-requires-clause-covered c =
     outgoing_covered h c.args.conn (conn_in h.conns c.args.conn) c.requires.sound
     (found_conn h c.args.conn c.requires.there)
 
--- its peer is as told, whether or not it is forgotten then
+-- its peer closed in the reported way, whether or not the connection is removed then
 reported : (c : After-peer_closed)
     → IsChanged c.args.conn (λ s. with_conn s c.args.conn (closed_by (conn_at s c.args.conn) c.args.how))
     (state_of c.args.self.now) (record (state_of c.args.self.now) {

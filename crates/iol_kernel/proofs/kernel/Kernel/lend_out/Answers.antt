@@ -23,7 +23,7 @@ drain_to-drained-requires-clause-readable g c =
     (conn_readable h c.args.conn (conn_in h.conns c.args.conn) c.requires.sound
     (found_conn h c.args.conn c.requires.there)).1
 
--- what was lent
+-- the bytes taken off the output
 lent : (g : Over) (c : After-drain_to-drained g)
     → Lent (state_of c.args.self.now) (record (state_of c.args.self.now) {
       store = c.drain_to-drained.new.store;

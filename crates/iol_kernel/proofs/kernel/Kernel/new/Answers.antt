@@ -17,7 +17,7 @@ use Rattle.iol_kernel.proofs.kernel.Kernel.new.Goals as goal
 pub new-requires-2 : goal.new-requires-2
 new-requires-2 c = some_sums c.args.config c.new.result c.in_ok-store.store c.new.ensures.range (search (rules))
 
--- where memory was wanting, the sizes are in their ranges, since there is a store of them
+-- if memory ran out, the sizes are in their ranges, because there is a store of these sizes
 unmade : (config : Config) {A : Type 0} (s : Result A Refusal) (x : A) (r : Result Kernel Refusal)
     → (s ≡ Err BadRange) ↔ (IsInRange config → ⊥) → s ≡ Ok x → r ≡ Err Memory → MakesKernel config r
 unmade config s x r range made is = subst (λ (t : Result Kernel Refusal). MakesKernel config t) (sym is) (record {

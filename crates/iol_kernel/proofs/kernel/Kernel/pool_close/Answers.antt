@@ -11,7 +11,7 @@ use Rattle.iol_kernel.specs.Readings.{Reading, bytes_over}
 use Rattle.iol_kernel.proofs.State.Refinement.{kept_refused}
 use Rattle.iol_kernel.proofs.kernel.Kernel.pool_close.Goals as goal
 
--- after the tests of a default pool comes one more
+-- one more test follows those of a default pool
 
 still_refused : (a b c d e : Option Refusal) (x : Refusal) → first (a ∷ b ∷ c ∷ d ∷ []) ≡ Some x
     → first (a ∷ b ∷ c ∷ d ∷ e ∷ []) ≡ Some x

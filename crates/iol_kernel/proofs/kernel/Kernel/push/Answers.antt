@@ -58,7 +58,7 @@ queue-requires-clause-there c =
     conn_there_held (state_of c.args.self.now) c.args.by c.args.fd c.in-Connection.conn c.requires.may.held.sound
     (λ f. c.requires.may.held.from f ∙ ap (λ (x : Descriptor). Some x) c.in-Connection.is)
 
--- what fits keeps the queue within its bound
+-- the bytes that fit keep the queue within its bound
 short : (old new given n : ℕ) → old ≤ MAX_QUEUE_BYTES → n ≡ min given (MAX_QUEUE_BYTES - old) → new ≤ old + n
     → new ≤ MAX_QUEUE_BYTES
 short old new given n h is le = omega (arith, h, is, le)

@@ -21,7 +21,7 @@ use Rattle.iol_kernel.proofs.kernel.Kernel.put.Goals.{After-fitting-count, In-Co
 pub make_room_for-requires : goal.make_room_for-requires
 make_room_for-requires c = may_place c.requires.may
 
--- the answer is how many fit
+-- the answer is the number of bytes that fit
 counted : (c : After-fitting-count) (f : Reading)
     → (write (read_of f (state_of c.args.self.now)) c.args.by c.args.fd c.args.bytes.now).answer
     ≡ c.fitting-count.result
@@ -39,7 +39,7 @@ returns-then-not-make_room_for c =
       slices = tt;
     }
 
--- once there is room, these bytes may still be put where the descriptor is open on
+-- after room was made, the bytes may still be put into the descriptor's object
 
 to_pipe : (c : In-WriteEnd) → MayPut c.args.by c.args.fd (on.WriteEnd c.in-WriteEnd.pipe) c.args.pool c.args.bytes.now
     (state_of c.make_room_for.new.self)

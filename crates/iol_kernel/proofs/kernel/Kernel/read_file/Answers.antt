@@ -79,7 +79,7 @@ set_fd-requires-clause-live g c = live_there c.requires c.in_ok-reserve_aggs.ens
 pub set_fd-requires-clause-there : goal.set_fd-requires-clause-there
 set_fd-requires-clause-there g c = open_there c.requires c.in_ok-reserve_aggs.ensures.same
 
--- the position moved on
+-- the position moved
 moved : (g : Over) (c : After-set_fd g)
     → domains_of c.set_fd.new.self ≡ moved_on (domains_of c.reserve_aggs.new.self)
     (read_at c.args.by c.args.fd c.args.found c.args.count) c.len.result

@@ -18,7 +18,7 @@ arrive_from-requires-clause-pool g c =
     let h = state_of c.args.self.now in
     conn_open h c.args.conn (conn_in h.conns c.args.conn) c.requires.sound (found_conn h c.args.conn c.requires.there)
 
--- what the read brought in
+-- the result of the read
 brought : (g : Over) (c : In_ok-arrive_from g)
     → BroughtIn (state_of c.args.self.now) (record (state_of c.args.self.now) {
       store = c.arrive_from.new.store;

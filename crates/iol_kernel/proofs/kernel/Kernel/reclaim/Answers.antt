@@ -22,7 +22,7 @@ returns-then-not-is_over c = record {
   others = record { each = λ e differ open'. open' };
 }
 
--- what is forgotten was over
+-- the removed connection was over
 over : (c : After-forget-over) → is_over c.forget-over.result ≡ true
 over c =
     let same : c.forget-over.result ≡ c.in-Some.found.now =
