@@ -1,5 +1,5 @@
 /*
- * iolite.h: the I/O system with one copy of each byte, from C. Made by bindings/c/make_header: do not edit.
+ * iolite.h: the I/O system whose domains share buffers by reference, from C. Made by bindings/c/make_header: do not edit.
  *
  * Nothing checks what a caller passes. The caller sees to this:
  *  - An iol_system is {0} until iol_system_new or iol_system_over returns 0. It is never copied, and it is freed once.

@@ -1,4 +1,4 @@
-"""The I/O system with one copy of each byte, from Python.
+"""The I/O system whose domains share buffers by reference, from Python.
 
     with System(chunks=16) as system:
         one = system.domain(1)
