@@ -30,7 +30,8 @@ use Rattle.flash_cgi.specs.Output.{Outcome, Found, by_first, output}
 use Rattle.flash_cgi.specs.Pieces.{DropsPart, Gathers, HasPiece, HoldsAt, IsRest, IsReadable, FilesAreReadable}
 use Rattle.flash_cgi.specs.Outcomes.{AreFiles, outcomes_in, to_come, to_come_phase, ReadsNamed}
 use Rattle.flash_cgi.specs.WorkerSteps.{bytes_at, file_collected, said_text, shut_by, after_phase}
-use Rattle.flash_cgi.specs.Feeds.{put_out, rest_of, set_in, still, still_phase, then_rest, HasBytes, IsFileOpen, Needs}
+use Rattle.flash_cgi.specs.Feeds.{output_for, rest_of, set_in, still, still_phase, then_rest, HasBytes, IsFileOpen}
+use Rattle.flash_cgi.specs.Feeds.{Needs}
 use Rattle.flash_cgi.specs.Feeds.{Feeds}
 use Rattle.flash_cgi.specs.JobStart.{HasJob, Begins}
 use Rattle.flash_cgi.specs.Turns.{IsFree, RunsJob, or_again, filed_step}
@@ -192,7 +193,8 @@ module _ (m n : State) (d : ℕ) (left : LeavesWorker m d n) where
   still_stays job begun x phase.Interpreting os h k = then_stays job begun x os k
   still_stays job begun x (phase.DroppingWritten a) os h k = then_stays job begun x os k.0.piece
   still_stays job begun x (phase.Reading file u) os h k =
-      ap (λ (l : List ℕ). l ++ by_first (put_out u) (rest_of job begun) os) (all_stays (length x.text) x.text x k.piece)
+      ap (λ (l : List ℕ). l ++ by_first (output_for u) (rest_of job begun) os)
+      (all_stays (length x.text) x.text x k.piece)
   still_stays job begun x (phase.DroppingCounted file a s) os h k =
       ap (λ (l : List ℕ). l ++ (said_text s ++ rest_of job begun os)) (all_stays (length x.text) x.text x k.0.piece)
   still_stays job begun x (phase.ClosingCounted file s) os h k =

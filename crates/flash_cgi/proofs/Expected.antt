@@ -18,7 +18,7 @@ use Rattle.iol_proc.specs.World.{copying}
 use Rattle.iol_proc.specs.declared.process_slot.ProcessSlot.{ProcessSlot}
 use Rattle.flash_cgi.specs.Beside.{is_call_of, LeavesFiles, LeavesJobs, LeavesWorker, Receives, OthersReceive}
 use Rattle.flash_cgi.specs.Expected.{Made, text_of, HasJobQueue, HasRest, IsExpected, IsWritten, GaveFront, Goes}
-use Rattle.flash_cgi.specs.Expected.{ScriptsPutOut}
+use Rattle.flash_cgi.specs.Expected.{ScriptsHaveOneOutput}
 use Rattle.flash_cgi.specs.Feeds.{Needs}
 use Rattle.flash_cgi.specs.Free.{HasNoJob}
 use Rattle.flash_cgi.specs.Frame.{LeavesAllBut, WorkersAreConfined}
@@ -397,8 +397,9 @@ others law m n j p process_slot e r made text order placed step other files same
     receives = law.gone m n p process_slot expected.unseen left (left_jobs m n j p process_slot expected.job_queue same)
         expected.runs goes
 
-pub scripts_put_out : TurnsFeed → OthersReceive → CallsServeTheirDomain → WorkersAreConfined → ScriptsPutOut
-scripts_put_out feeds law own confined = record {
+pub scripts_have_one_output : TurnsFeed → OthersReceive → CallsServeTheirDomain → WorkersAreConfined
+    → ScriptsHaveOneOutput
+scripts_have_one_output feeds law own confined = record {
   begins = begins;
   turns = turns feeds own confined;
   others = others law;

@@ -34,7 +34,7 @@ use Rattle.flash_cgi.specs.Pieces.{NextIsReadable}
 use Rattle.flash_cgi.specs.WorkerSteps.{said_text, line_text, counts_of, bytes_at, call_at, expected_now}
 use Rattle.flash_cgi.specs.WorkerSteps.{file_collected, after_dropping, after_joining, after_next, after_making}
 use Rattle.flash_cgi.specs.WorkerSteps.{after_opening, after_writing, after_reading, after_cutting, next_call}
-use Rattle.flash_cgi.specs.Feeds.{put_out, rest_of, still, then_rest, IsFileOpen, Needs, Feeds, resolved}
+use Rattle.flash_cgi.specs.Feeds.{output_for, rest_of, still, then_rest, IsFileOpen, Needs, Feeds, resolved}
 use Rattle.flash_cgi.specs.Feeds.{resolved_begun, resolved_open, failed, Ends, ComesTo, Comes, FeedsOn}
 use Rattle.flash_cgi.specs.declared.line.Line.{Line}
 use Rattle.flash_cgi.specs.declared.line.Line.TheVariants as line
@@ -504,7 +504,7 @@ module _ (steps : EachStepLeavesTheRest) (own : CallsServeTheirDomain) (files : 
   opens : (m n : State) (d p : ℕ) (job : Task) (begun : ℕ) (u : Purpose) (name : List ℕ) (x : Collected) (r : Reply)
       (unseen : List Outcome → List ℕ) → Feeds m d p job (at_step phase.Interpreting begun x) unseen
       → Gathers (readable_at m d) x → StepsTo m (event.Call d (call.OpenFile name Read)) r n
-      → ((os : List Outcome) → rest_of job begun os ≡ by_first (put_out u) (rest_of job (begun + 1)) os)
+      → ((os : List Outcome) → rest_of job begun os ≡ by_first (output_for u) (rest_of job (begun + 1)) os)
       → resolved job (at_step phase.Interpreting begun x) (readable_at n d) r ≡ failed r
       → ComesTo m d p job (at_step phase.Interpreting begun x) unseen r n (after_opening x u (begun + 1) r)
   opens m n d p job begun u name x r unseen f g step same used =
@@ -542,7 +542,7 @@ module _ (steps : EachStepLeavesTheRest) (own : CallsServeTheirDomain) (files : 
                 ∙ leaves.readers d (file_of m did.file_is).pool did.may;
           })
           (gathers_still (readable_at m d) (readable_at n d) x (stays (reply.Fd file) step) g)
-          (λ os. ap (λ (l : List ℕ). l ++ by_first (put_out u) (rest_of job (begun + 1)) os)
+          (λ os. ap (λ (l : List ℕ). l ++ by_first (output_for u) (rest_of job (begun + 1)) os)
           (all_same m n d x (stays (reply.Fd file) step) g.piece)
           ∙ ap (λ (l : List ℕ). collected (readable_at m d) x ++ l) (sym (same os)))))
       by (reply.Refused y) step used did =

@@ -25,7 +25,7 @@ use Rattle.flash_cgi.specs.WorkerSteps.{call_at, phase_call, after_reply, after_
 use Rattle.flash_cgi.specs.Works.{works, works_as, files, proceeds, takes, with_job, with_text, worker_turns}
 use Rattle.flash_cgi.specs.Standstill.{is_over}
 use Rattle.flash_cgi.specs.Feeds.{Feeds, ComesTo, FeedsOn, resolved, Needs}
-use Rattle.flash_cgi.specs.Outcomes.{AreFiles, OutcomesAreTrue, SettlesByRefusal, SettlesTruly, outcomes_in, to_come}
+use Rattle.flash_cgi.specs.Outcomes.{AreFiles, OutcomesAreTrue, ResolvesByRefusal, ResolvesTruly, outcomes_in, to_come}
 use Rattle.flash_cgi.specs.Outcomes.{ReadsNamed}
 use Rattle.flash_cgi.specs.JobStart.{HasJob, Begins, JobsAreTaken}
 use Rattle.flash_cgi.specs.Turns.{IsFree, is_given, Awaits, or_again, filed_step, RunsJob, outcomes_to_come}
@@ -113,7 +113,7 @@ module _ (feeds_on : FeedsOn) (taken : JobsAreTaken) (true_to : OutcomesAreTrue)
       filed o is = ap (λ (s : Standing). filed_step s v (readable_at n d) r) asked
           ∙ ap (λ (x : Option Step). or_again x v.step) is
 
-      which : (next : Step) → SettlesTruly m d v.job v.step r n next ⊎ SettlesByRefusal m d v.job v.step r n next
+      which : (next : Step) → ResolvesTruly m d v.job v.step r n next ⊎ ResolvesByRefusal m d v.job v.step r n next
           → Resolves r (to_come m d v.job v.step) (resolved v.job v.step (readable_at n d) r) (to_come n d v.job next)
           × ReadsNamed n d v.job next.begun next.phase
       which next (inl t) = (inl t.same, t.reads)

@@ -30,7 +30,7 @@ use Rattle.flash_cgi.specs.Job.{Task}
 use Rattle.flash_cgi.specs.Output.{Outcome, Failed, output, by_first}
 use Rattle.flash_cgi.specs.Pieces.{HasPiece, HoldsAt, IsApart, IsRest, IsReadable}
 use Rattle.flash_cgi.specs.WorkerSteps.{said_text, bytes_at}
-use Rattle.flash_cgi.specs.Feeds.{put_out, still, IsFileOpen, Needs, Feeds, failed}
+use Rattle.flash_cgi.specs.Feeds.{output_for, still, IsFileOpen, Needs, Feeds, failed}
 use Rattle.flash_cgi.specs.declared.line.Line.{Line}
 use Rattle.flash_cgi.specs.declared.line.Line.TheVariants as line
 use Rattle.flash_cgi.specs.declared.counts.Said.TheVariants as said
@@ -110,7 +110,7 @@ and_before true c e = absurd (cc)
 and_before false c e = refl
 
 pub failed_text : (u : Purpose) (x : Refusal) (rest : List Outcome → List ℕ) (os : List Outcome)
-    → said_text (said.Refused x) ++ rest os ≡ by_first (put_out u) rest (Failed x ∷ os)
+    → said_text (said.Refused x) ++ rest os ≡ by_first (output_for u) rest (Failed x ∷ os)
 failed_text purpose.Cat x rest os = refl
 failed_text purpose.Wc x rest os = refl
 

@@ -33,8 +33,8 @@ use Rattle.flash_cgi.specs.WorkerSteps.{after_joining, after_next, after_making,
 use Rattle.flash_cgi.specs.WorkerSteps.{after_replacing, after_writing, after_reading, after_cutting, next_call}
 use Rattle.flash_cgi.specs.WorkerSteps.{bytes_at, interleave_by, interleave_on}
 use Rattle.flash_cgi.specs.Feeds.{Feeds, resolved, resolved_begun, resolved_open, failed}
-use Rattle.flash_cgi.specs.Outcomes.{outcome_of, outcome_in, outcomes_in, to_come, IsReading, ReadsNamed, SettlesTruly}
-use Rattle.flash_cgi.specs.Outcomes.{SettlesByRefusal, AreFiles, OutcomesAreTrue}
+use Rattle.flash_cgi.specs.Outcomes.{outcome_of, outcome_in, outcomes_in, to_come, IsReading, ReadsNamed, ResolvesTruly}
+use Rattle.flash_cgi.specs.Outcomes.{ResolvesByRefusal, AreFiles, OutcomesAreTrue}
 use Rattle.flash_cgi.specs.declared.line.Line.{Line}
 use Rattle.flash_cgi.specs.declared.line.Line.TheVariants as line
 use Rattle.flash_cgi.specs.declared.phase.Purpose.{Purpose}
@@ -91,7 +91,7 @@ plain steps m n d job c r step good undisturbed shut begun =
 module _ (steps : EachStepLeavesTheRest) (files : FileCallsServeTheirDomain) where
   abbrev TrulyTo : State → ℕ → Task → Step → Reply → State → Option Step → Type 0
   TrulyTo m d job step r n None = Unit {0}
-  TrulyTo m d job step r n (Some next) = SettlesTruly m d job step r n next ⊎ SettlesByRefusal m d job step r n next
+  TrulyTo m d job step r n (Some next) = ResolvesTruly m d job step r n next ⊎ ResolvesByRefusal m d job step r n next
 
   -- the aggregate of the buffered text is made: no file is opened
   interleaved_truly : (m n : State) (d : ℕ) (job : Task) (begun a : ℕ) (s : Step) (r : Reply) (x : Collected)

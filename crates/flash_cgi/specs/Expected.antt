@@ -115,7 +115,7 @@ pub record Goes (m n : State) (j p : ℕ) (next : ProcessSlot Worker) (made : Ma
 
 -- If the files do not change, a script outputs one text, with a refusal instead of a file if its worker's call for this
 -- file got it.
-pub record ScriptsPutOut : Type 0 where
+pub record ScriptsHaveOneOutput : Type 0 where
   -- for a job that waits for a free worker: the output of its lines, after the bytes already in the pipe
   pub begins : (m : State) (j p fd : ℕ) (process_slot : ProcessSlot Worker) (query script : List ℕ) (lines : List Line)
       → IsFree m process_slot

@@ -27,9 +27,9 @@ use Rattle.flash_cgi.specs.declared.phase.Step.{Step}
 
 -- ---- the bytes still to be written
 
-abbrev pub put_out : Purpose → Outcome → List ℕ
-put_out purpose.Cat o = cat_of o
-put_out purpose.Wc o = wc_of o
+abbrev pub output_for : Purpose → Outcome → List ℕ
+output_for purpose.Cat o = cat_of o
+output_for purpose.Wc o = wc_of o
 
 -- of the lines not yet begun
 abbrev pub rest_of : Task → (begun : ℕ) → List Outcome → List ℕ
@@ -50,7 +50,7 @@ still_phase job begun readable x (phase.Aborting agg) os = []
 still_phase job begun readable x phase.Interpreting os = then_rest job begun readable x os
 still_phase job begun readable x (phase.DroppingWritten agg) os = then_rest job begun readable x os
 still_phase job begun readable x (phase.Reading file p) os =
-    collected readable x ++ by_first (put_out p) (rest_of job begun) os
+    collected readable x ++ by_first (output_for p) (rest_of job begun) os
 still_phase job begun readable x (phase.DroppingCounted file agg s) os =
     collected readable x ++ (said_text s ++ rest_of job begun os)
 still_phase job begun readable x (phase.ClosingCounted file s) os =

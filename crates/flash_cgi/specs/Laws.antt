@@ -4,7 +4,7 @@ use Rattle.flash_cgi.specs.Script.{script_of}
 use Rattle.flash_cgi.specs.Job.{job_text, job_of, task_of}
 use Rattle.flash_cgi.specs.Output.{Outcome}
 pub use Rattle.flash_cgi.specs.Beside.{OthersReceive}
-pub use Rattle.flash_cgi.specs.Expected.{ScriptsPutOut}
+pub use Rattle.flash_cgi.specs.Expected.{ScriptsHaveOneOutput}
 pub use Rattle.flash_cgi.specs.PipeEnd.{WorkersStop}
 pub use Rattle.flash_cgi.specs.Feeds.{FeedsOn}
 pub use Rattle.flash_cgi.specs.Free.{WorkersStayFree}

@@ -64,14 +64,14 @@ ReadsNamed m d job begun (phase.Reading file u) = IsReading m d job begun file
 ReadsNamed m d job begun x = ⊤
 
 -- the settled outcome is the one that was to come
-pub record SettlesTruly (m : State) (d : ℕ) (job : Task) (step : Step) (r : Reply) (n : State) (next : Step) :
+pub record ResolvesTruly (m : State) (d : ℕ) (job : Task) (step : Step) (r : Reply) (n : State) (next : Step) :
     Type 0 where
   pub same : to_come m d job step ≡ resolved job step (readable_at n d) r ++ to_come n d job next
   pub reads : ReadsNamed n d job next.begun next.phase
 
 -- The call for a file was refused with TooMany, NoRoom, Fault or Memory: it settles this refusal instead of the file's
 -- outcome.
-pub record SettlesByRefusal (m : State) (d : ℕ) (job : Task) (step : Step) (r : Reply) (n : State) (next : Step) :
+pub record ResolvesByRefusal (m : State) (d : ℕ) (job : Task) (step : Step) (r : Reply) (n : State) (next : Step) :
     Type 0 where
   pub why : Refusal
   pub answer : r ≡ reply.Refused why
@@ -92,4 +92,4 @@ abbrev pub OutcomesAreTrue : Type 0
 OutcomesAreTrue = (m n : State) (d p : ℕ) (job : Task) (step next : Step) (r : Reply) (unseen : List Outcome → List ℕ)
     → IsOrderly m → ArePlaced m → AreFiles m → Feeds m d p job step unseen → ReadsNamed m d job step.begun step.phase
     → StepsTo m (event.Call d (call_at job step)) r n → after_reply job step (readable_at n d) r ≡ Some next
-    → SettlesTruly m d job step r n next ⊎ SettlesByRefusal m d job step r n next
+    → ResolvesTruly m d job step r n next ⊎ ResolvesByRefusal m d job step r n next

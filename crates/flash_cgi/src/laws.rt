@@ -1,5 +1,5 @@
 //! Laws of scripts and workers. The functions have no effect; their contracts are the laws.
-ghost use Rattle.flash_cgi.specs.Laws.{OthersReceive, ScriptsPutOut, WorkersStop, FeedsOn, WorkersStayFree, RunningIsFull, WorkersKeepNothing, JobsAreRead, WorkersAreConfined, OutcomesAreTrue, OutputsAreShown, JobsAreTaken, PiecesAreLong, TurnsFeed, WaitingIsEmpty};
+ghost use Rattle.flash_cgi.specs.Laws.{OthersReceive, ScriptsHaveOneOutput, WorkersStop, FeedsOn, WorkersStayFree, RunningIsFull, WorkersKeepNothing, JobsAreRead, WorkersAreConfined, OutcomesAreTrue, OutputsAreShown, JobsAreTaken, PiecesAreLong, TurnsFeed, WaitingIsEmpty};
 
 use iol_laws::laws;
 
@@ -70,8 +70,8 @@ pub fn outcomes_are_true()
 /// Fault or Memory replaces the text by another: that of the same lines with the refusal instead of
 /// the file, which begins with the bytes already taken. After the job is read, its job pipe is
 /// empty.
-pub fn scripts_put_out()
-    ensures { ScriptsPutOut }
+pub fn scripts_have_one_output()
+    ensures { ScriptsHaveOneOutput }
 {
     turns_feed();
     others_receive();

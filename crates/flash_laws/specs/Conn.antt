@@ -163,16 +163,16 @@ sends_of (Bytes first last) a len = Slicing a first (last + 1) len
 sends_of Unsatisfiable a len = DroppingWhole a (Bare len)
 
 -- a text that is no script cannot run
-abbrev pub put_out : (runs : Bool) → Payload
-put_out true = Script
-put_out false = Error 500
+abbrev pub script_payload : (runs : Bool) → Payload
+script_payload true = Script
+script_payload false = Error 500
 
 abbrev pub resolved : Answer → FileResult → Phase
 resolved (serve w) (File a len) = sends_of (selected w.range len) a len
 resolved (refuse status head_only close) (File a len) = MakingHead (Body a len len)
 resolved q (Length len) = MakingHead (Bare len)
 resolved q (Fails status) = MakingHead (Error status)
-resolved q (Text a runs) = DroppingWhole a (put_out runs)
+resolved q (Text a runs) = DroppingWhole a (script_payload runs)
 
 abbrev pub after_close_file : Answer → (file : ℕ) → FileResult → Reply → Phase
 after_close_file q f k r = or_stay (ClosingFile f k) (on_done r (resolved q k))

@@ -142,11 +142,11 @@ abbrev pub holding : (held size : ℕ) → (frame : Option ℕ) → Step
 holding held size frame = if nat_lt size CHUNK_BYTES then ReadingOutput (Some (held, size)) frame else filled held frame
 
 -- some output was read
-abbrev pub hearing : (broken chunked : Bool) → Following → (frame : Option ℕ) → (agg len : ℕ) → Step
-hearing true chunked held frame a len = DroppingOutput a frame
-hearing false false held frame a len = SendingPart (sends_part a len) frame
-hearing false true None frame a len = holding a len frame
-hearing false true (Some x) frame a len = JoiningOutput x.0 x.1 a len frame
+abbrev pub on_output : (broken chunked : Bool) → Following → (frame : Option ℕ) → (agg len : ℕ) → Step
+on_output true chunked held frame a len = DroppingOutput a frame
+on_output false false held frame a len = SendingPart (sends_part a len) frame
+on_output false true None frame a len = holding a len frame
+on_output false true (Some x) frame a len = JoiningOutput x.0 x.1 a len frame
 
 -- the server may not read the output
 abbrev pub unread : Following → (frame : Option ℕ) → Step
@@ -157,7 +157,7 @@ unread (Some x) frame = DiscardingHeld x.0 frame
 abbrev pub received_of_script : Wanted → Run → Following → (frame : Option ℕ) → (agg : ℕ) → (received : List ℕ) → Step
 received_of_script w run held frame n [] = DroppingEnd n held frame
 received_of_script w run held frame n (b ∷ received) =
-    hearing run.broken w.chunked held frame n (count_of (b ∷ received))
+    on_output run.broken w.chunked held frame n (count_of (b ∷ received))
 
 abbrev pub after_output : Wanted → Run → Following → (frame : Option ℕ) → Reply → (received : List ℕ) → Running
 after_output w run held frame r received = or_stay (InProgress run (ReadingOutput held frame))

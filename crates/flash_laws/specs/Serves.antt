@@ -1,6 +1,6 @@
 -- A turn of the server: it processes the reply to the pending call, picks a client, and makes its next call.
 pub mod Rounds
-pub mod GoesRound
+pub mod RoundRobin
 pub mod FairTurns
 pub mod Wants
 use Rattle.std.specs.Prelude.{◌≡◌, ℕ, List, [], Option, Some, unwrap_or, IsTrue, ⊤}

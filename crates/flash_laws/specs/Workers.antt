@@ -5,7 +5,7 @@
 -- The worker itself defines when it is free, and which text is expected from it.
 pub mod WorkerSet
 pub mod WorkerSets
-pub mod PutsOut
+pub mod DeliversText
 pub mod OwnWorkers
 use Rattle.std.specs.Prelude.{◌≡◌, ◌⊎◌, ◌≤◌, ℕ, Bool, List, ◌++◌, length, Some, IsTrue, IsFalse}
 use Rattle.iol_core.specs.Access.{HasAccess}

@@ -1,7 +1,7 @@
 //! Laws of the server's calls and turns. The functions have no effect; their contracts are the
 //! laws.
 ghost use Rattle.flash_laws.specs.Serves.FairTurns.{TurnsAreFair};
-ghost use Rattle.flash_laws.specs.Serves.GoesRound.{TurnsGoRound};
+ghost use Rattle.flash_laws.specs.Serves.RoundRobin.{TurnsAreRoundRobin};
 ghost use Rattle.flash_laws.specs.Conn.Holdings.{KeepsNothing};
 ghost use Rattle.flash_laws.specs.Conn.OfferedBytes.{OffersTheResponse};
 ghost use Rattle.flash_laws.specs.Workers.OwnWorkers.{WorkersAreShared};
@@ -53,7 +53,7 @@ pub fn site_law()
 /// number of connections, and only then yields: it accepts in each round, unless it is full. So a
 /// client waits for another only while the server advances one response of that client.
 pub fn rounds_law()
-    ensures { TurnsGoRound }
+    ensures { TurnsAreRoundRobin }
 {}
 
 /// Turns are fair. Between the reply with which a response to a client is taken whole, and the

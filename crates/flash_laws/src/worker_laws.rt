@@ -3,7 +3,7 @@
 ghost use Rattle.std.specs.Prelude.{ℕ, Bool};
 ghost use Rattle.flash_cgi.specs.Prelude.{HasWaited, worker_turns};
 ghost use Rattle.flash_laws.specs.SiteContents.Expected.{ExpectedMayCome};
-ghost use Rattle.flash_laws.specs.Workers.PutsOut.{TextsArePutOut};
+ghost use Rattle.flash_laws.specs.Workers.DeliversText.{TextsAreDelivered};
 ghost use Rattle.flash_laws.specs.Workers.{IsExpectedOf, IsFreeFor, WorkersRun};
 
 use flash_cgi::laws as scripts;
@@ -17,7 +17,7 @@ pub fn workers_run()
         → WorkersRun worker_turns HasWaited pools (IsFreeFor pools) (IsExpectedOf pools) }
 {
     scripts::workers_stay_free();
-    scripts::scripts_put_out();
+    scripts::scripts_have_one_output();
     scripts::others_receive();
     scripts::workers_are_confined();
     scripts::outputs_are_shown();
@@ -34,9 +34,9 @@ pub fn expected_may_come()
 /// A reader of the pipe gets the output of a script in order and to its end. Each read gives the
 /// front of the remaining text; a read of no bytes means that all was read and that the worker is
 /// free; and no read is denied. Turns of the worker and events of others preserve the rest.
-pub fn texts_are_put_out()
+pub fn texts_are_delivered()
     ensures { (pools : ℕ → Bool)
-        → TextsArePutOut worker_turns pools (IsFreeFor pools) (IsExpectedOf pools) }
+        → TextsAreDelivered worker_turns pools (IsFreeFor pools) (IsExpectedOf pools) }
 {
     workers_run();
     scripts::others_receive();

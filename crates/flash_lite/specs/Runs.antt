@@ -6,7 +6,7 @@ use Rattle.flash_cgi.specs.Job.{job_text}
 use Rattle.flash_http.specs.Request.{Wanted}
 use Rattle.flash_laws.specs.Conn.{Following}
 use Rattle.flash_laws.specs.Conn as conn
-use Rattle.flash_laws.specs.Run.{is_left, hearing, in_phase, step_call, next_call}
+use Rattle.flash_laws.specs.Run.{is_left, on_output, in_phase, step_call, next_call}
 use Rattle.flash_laws.specs.declared.phase.Phase.{Phase}
 use Rattle.flash_laws.specs.declared.script_run.TheConstants.{CHUNK_BYTES}
 use Rattle.flash_laws.specs.declared.script_run.Run.{Run}
@@ -81,4 +81,4 @@ after_reply_left w d r received = (conn.after_reply (in_phase w d) r received).p
 -- len bytes of output were read, or its end
 abbrev pub reading : (broken chunked : Bool) → (held : Following) → (frame : Option ℕ) → (agg len : ℕ) → Step
 reading broken chunked held frame a len =
-    if len == 0 then DroppingEnd a held frame else hearing broken chunked held frame a len
+    if len == 0 then DroppingEnd a held frame else on_output broken chunked held frame a len

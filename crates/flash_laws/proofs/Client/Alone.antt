@@ -21,7 +21,7 @@ use Rattle.flash_http.specs.Request.{Answer, serve, refuse, Wanted}
 use Rattle.flash_laws.specs.Answers.{Outcome, Failed, script_text}
 use Rattle.flash_laws.specs.Client.{Client, is_for_script, conn_call, can_run, buffered_if, after_drop_whole}
 use Rattle.flash_laws.specs.Client.{conn_after_reply, file_after_reply}
-use Rattle.flash_laws.specs.Client.OfferedBytes.{ConnLearns}
+use Rattle.flash_laws.specs.Client.OfferedBytes.{ConnUpdates}
 use Rattle.flash_laws.specs.Conn as conn
 use Rattle.flash_laws.specs.Conn.{Conn, most_read, status_of}
 use Rattle.flash_laws.specs.declared.phase.FileResult.TheVariants.{Text as TextOf}
@@ -107,13 +107,13 @@ module _ (steps : EachStepLeavesTheRest) (own : CallsServeTheirDomain) (files : 
 
   -- the known part of the response after a reply, for which the machine has the data of the next step
   abbrev AfterReply : (b : Bool) → Answer → Phase → Reply → (received : List ℕ) → Known → Type 0
-  AfterReply b q d r received before = (after : Known) × ConnLearns b d r received before after
+  AfterReply b q d r received before = (after : Known) × ConnUpdates b d r received before after
       × HasKnown scripts n (file_after_reply b (of_phase q d) r received) after
 
   -- ---- a request for a file
 
   abbrev AfterReplyOfFile : Answer → Phase → Reply → (received : List ℕ) → Outcome → Type 0
-  AfterReplyOfFile q d r received before = (after : Outcome) × single.Learns d r received before after
+  AfterReplyOfFile q d r received before = (after : Outcome) × single.Updates d r received before after
       × HasFile n (conn_after_reply (of_phase q d) r received) after
 
   file-on : (q : Answer) (d : Phase) (r : Reply) (received : List ℕ) (before : Outcome) → is_closing d ≡ false

@@ -22,7 +22,7 @@ use Rattle.flash_laws.specs.Answers.{Outcome, response, script_text}
 use Rattle.flash_laws.specs.Client.{Client, uses_agg, uses_fd, is_for_script, conn_call, job_of, next_call}
 use Rattle.flash_laws.specs.Client.{file_after_reply, keeps_text, text_on, after_run, proceeds, run_after_reply, run_on}
 use Rattle.flash_laws.specs.Client.{after_reply, awaits}
-use Rattle.flash_laws.specs.Client.OfferedBytes.{begun, is_ending, Learns, taken_by, HandsJob, IsAsItsConn, IsAsItsRun}
+use Rattle.flash_laws.specs.Client.OfferedBytes.{begun, is_ending, Updates, taken_by, HandsJob, IsAsItsConn, IsAsItsRun}
 use Rattle.flash_laws.specs.Client.OfferedBytes.{ClientsAreOfferedTheResponse}
 use Rattle.flash_laws.specs.Conn as conn
 use Rattle.flash_laws.specs.Conn.{Conn, most_read}
@@ -34,7 +34,7 @@ use Rattle.flash_laws.specs.declared.script_run.Running.{Running}
 use Rattle.flash_laws.specs.declared.script_run.Running.TheVariants.{InProgress, Finishing}
 use Rattle.flash_laws.specs.Conn.Fits.{Has, Names}
 use Rattle.flash_laws.specs.Client.ResponseState as known
-use Rattle.flash_laws.specs.Client.ResponseState.{Known, OfFile, OfScript, MayPutOut, IsNextOf, is_read, is_silent}
+use Rattle.flash_laws.specs.Client.ResponseState.{Known, OfFile, OfScript, MaySendOutput, IsNextOf, is_read, is_silent}
 use Rattle.flash_laws.specs.Client.ResponseState.{IsAfter, HasNoRun, IsRun, HasKnown}
 use Rattle.flash_laws.specs.Conn.OfferedBytes as single
 use Rattle.flash_laws.specs.Run.Fits.{Progress, HasJobPipe, HasRun}
@@ -132,7 +132,7 @@ module _ (steps : EachStepLeavesTheRest) (own : CallsServeTheirDomain) (scripts 
     (open_on : descriptor m server fd ≡ Some (on.Connection c)) (buffered : List ℕ) (d : Phase) (script : List ℕ) where
   abbrev AfterReplyOfRun : (worker : ℕ) → Answer → Running → Reply → (received : List ℕ) → Known → Type 0
   AfterReplyOfRun worker q y r received before =
-      (after : Known) × Learns scripts m (client (at buffered q d) (Some y) script) r received before after
+      (after : Known) × Updates scripts m (client (at buffered q d) (Some y) script) r received before after
       × HasKnown scripts n (run_after_reply worker q (client (at buffered q d) (Some y) script) y r received) after
 
   run-on : (worker : ℕ) (w : Wanted) (y : Running) (r : Reply) (received : List ℕ) (text : List ℕ) (o : Progress)
@@ -169,7 +169,7 @@ replied : EachStepLeavesTheRest → CallsServeTheirDomain → FileCallsServeThei
     → HasKnown scripts m (client (at buffered q d) run script) before
     → StepsTo m (event.Call server (next_call scripts fd (client (at buffered q d) run script))) r n
     → Names n r received
-    → (after : Known) × Learns scripts m (client (at buffered q d) run script) r received before after
+    → (after : Known) × Updates scripts m (client (at buffered q d) run script) r received before after
     × HasKnown scripts n (after_reply scripts worker (client (at buffered q d) run script) r received) after
 replied steps own files scripts m n fd c worker buffered q d None script r received (OfFile o) order access lives
     open_on
@@ -274,7 +274,7 @@ known-next : (m : State) (w : Wanted) (d : Phase) (buffered text : List ℕ) (o 
 known-next m w d buffered text o a taken answers next = record {
   bytes = next.bytes;
   is_readable = next.is_readable;
-  next = λ r may. next.next r (subst (λ h. MayPutOut h w o r) answers may);
+  next = λ r may. next.next r (subst (λ h. MaySendOutput h w o r) answers may);
 }
 
 run-writes : (scripts : Bool) (m : State) (fd g a : ℕ) (buffered : List ℕ) (w : Wanted) (d : Phase) (y : Running)
@@ -323,7 +323,7 @@ offers scripts m fd g a buffered (serve w) d None script (OfScript text o) has i
         inl (
           next.0,
           one-next m (serve w) (OfScript text o) (script_text w) a (single.taken_of d)
-              (ap (λ (p : Progress). past_of p) fresh) (λ r may. subst (λ h. MayPutOut h w o r) head may) next.1,
+              (ap (λ (p : Progress). past_of p) fresh) (λ r may. subst (λ h. MaySendOutput h w o r) head may) next.1,
         )
     by false head was = absurd (silent-writes fd g a buffered (serve w) d was.0 asks)
 offers scripts m fd g a buffered (serve w) d (Some y) script (OfScript text o) has is =
@@ -400,10 +400,10 @@ clients_offered steps own files may = λ scripts. record {
   stays = λ m n x e r known step aggs fds has. stays steps scripts m n x.conn.buffered x.conn.request x.conn.phase x.run
       x.script
       e r known step aggs fds has;
-  takes = λ m n fd c worker x r received before after order open_on going has step learns at_is on busy.
+  takes = λ m n fd c worker x r received before after order open_on going has step updates at_is on busy.
       client-takes steps own scripts m n fd c worker x.conn.buffered x.conn.request x.conn.phase x.run x.script r
       received before
-      after order open_on going has step learns at_is on busy;
+      after order open_on going has step updates at_is on busy;
   files = λ m x o plain has. client-files scripts m x.conn.buffered x.conn.request x.conn.phase x.run x.script o plain
       has;
   runs = λ m x w y text o is_run is_q going has. client-runs scripts m x.conn.buffered x.conn.request x.conn.phase x.run

@@ -18,7 +18,7 @@ use Rattle.flash_laws.specs.Answers.{Outcome, Failed, response, script_text}
 use Rattle.flash_laws.specs.Client.{Client, is_for_script, conn_call, job_of, next_call, can_run, after_text}
 use Rattle.flash_laws.specs.Client.{after_drop_whole, file_after_reply, after_run, proceeds, run_after_reply}
 use Rattle.flash_laws.specs.Client.{after_reply}
-use Rattle.flash_laws.specs.Client.OfferedBytes.{is_ending, is_working, drops_rest, ConnLearns, Learns, taken_by}
+use Rattle.flash_laws.specs.Client.OfferedBytes.{is_ending, is_working, drops_rest, ConnUpdates, Updates, taken_by}
 use Rattle.flash_laws.specs.Conn.{is_head_only, after_drop_whole as after_drop_whole_conn}
 use Rattle.flash_laws.specs.Conn.Fits.{Has}
 use Rattle.flash_laws.specs.Client.ResponseState.{Known, OfFile, OfScript, of_text, taken_before, is_opening, IsRun}
@@ -49,17 +49,17 @@ text-none text = by (can_run text)
     by true = refl
     by false = refl
 
-file-learns : (b : Bool) (d : Phase) (r : Reply) (received : List ℕ) (o : Outcome) (after : Known)
-    → ConnLearns b d r received (OfFile o) after → taken_before after ≡ 0
-file-learns true (Reading f) (reply.Agg n) received o after l = ap (λ (k : Known). taken_before k) l
+file-updates : (b : Bool) (d : Phase) (r : Reply) (received : List ℕ) (o : Outcome) (after : Known)
+    → ConnUpdates b d r received (OfFile o) after → taken_before after ≡ 0
+file-updates true (Reading f) (reply.Agg n) received o after l = ap (λ (k : Known). taken_before k) l
     ∙ text-none received
-file-learns b d r received o after l = ap (λ (k : Known). taken_before k) l.2
+file-updates b d r received o after l = ap (λ (k : Known). taken_before k) l.2
 
-script-learns : (b : Bool) (d : Phase) (r : Reply) (received text : List ℕ) (o : Progress) (after : Known)
-    → is_opening d ≡ false → ConnLearns b d r received (OfScript text o) after
+script-updates : (b : Bool) (d : Phase) (r : Reply) (received text : List ℕ) (o : Progress) (after : Known)
+    → is_opening d ≡ false → ConnUpdates b d r received (OfScript text o) after
     → taken_before after ≡ past_of o
-script-learns true (Reading f) (reply.Agg n) received text o after read l = absurd (cc (read))
-script-learns b d r received text o after read l = ap (λ (k : Known). taken_before k) l
+script-updates true (Reading f) (reply.Agg n) received text o after read l = absurd (cc (read))
+script-updates b d r received text o after read l = ap (λ (k : Known). taken_before k) l
 
 -- ---- without a run
 
@@ -148,7 +148,7 @@ run-takes : EachStepLeavesTheRest → CallsServeTheirDomain
     (o : Progress) (after : Known) → IsOrderly m → descriptor m server fd ≡ Some (on.Connection c) → is_over y ≡ false
     → IsRun m w y script text o
     → StepsTo m (event.Call server (running.next_call (job_of w script) fd w y)) r n
-    → Learns true m (client (at buffered (serve w) d) (Some y) script) r received (OfScript text o) after
+    → Updates true m (client (at buffered (serve w) d) (Some y) script) r received (OfScript text o) after
     → breaks_off y ≡ false
     → drops_rest (run_after_reply worker (serve w) (client (at buffered (serve w) d) (Some y) script) y r received)
     ≡ false
@@ -156,13 +156,13 @@ run-takes : EachStepLeavesTheRest → CallsServeTheirDomain
     y r
     received)
     ≡ past_of o + run_taken y + newly_taken fd (running.next_call (job_of w script) fd w y) r
-run-takes steps own m n fd c worker buffered d script w y r received text o after order open_on going has step learns
+run-takes steps own m n fd c worker buffered d script w y r received text o after order open_on going has step updates
     at_is
     on =
     let same = call-text fd w y script text has.buffered in
-    let takes = run_takes.takes steps own (job_of w text) m n fd c worker w y r received o learns.0 order open_on going
+    let takes = run_takes.takes steps own (job_of w text) m n fd c worker w y r received o updates.0 order open_on going
     has.has
-    (subst (λ (k : Call). StepsTo m (event.Call server k) r n) same step) learns.1 at_is
+    (subst (λ (k : Call). StepsTo m (event.Call server k) r n) same step) updates.1 at_is
     (gone-breaks (client (at buffered (serve w) d) (Some y) script) y (running.after_reply worker w y r received)
     (is_over (running.after_reply worker w y r received)) refl
     ∙ (ap
@@ -170,7 +170,7 @@ run-takes steps own m n fd c worker buffered d script w y r received text o afte
     drops_rest
     (proceeds b (is_over (running.after_reply worker w y r received)) (client (at buffered (serve w) d) (Some y) script)
     y (running.after_reply worker w y r received))) (sym going) ∙ on)) in
-    let before : taken_before after ≡ past_of learns.0 = ap (λ (k : Known). taken_before k) learns.2 in
+    let before : taken_before after ≡ past_of updates.0 = ap (λ (k : Known). taken_before k) updates.2 in
     let now :
     taken_by (run_after_reply worker (serve w) (client (at buffered (serve w) d) (Some y) script) y r received)
     ≡ run_taken (running.after_reply worker w y r received) =
@@ -195,7 +195,7 @@ pub client-takes : EachStepLeavesTheRest → CallsServeTheirDomain
     → descriptor m server fd ≡ Some (on.Connection c) → is_ending (client (at buffered q d) run script) ≡ false
     → HasKnown scripts m (client (at buffered q d) run script) before
     → StepsTo m (event.Call server (next_call scripts fd (client (at buffered q d) run script))) r n
-    → Learns scripts m (client (at buffered q d) run script) r received before after
+    → Updates scripts m (client (at buffered q d) run script) r received before after
     → drops_rest (client (at buffered q d) run script) ≡ false
     → drops_rest (after_reply scripts worker (client (at buffered q d) run script) r received) ≡ false
     → is_working (after_reply scripts worker (client (at buffered q d) run script) r received) ≡ true
@@ -204,26 +204,26 @@ pub client-takes : EachStepLeavesTheRest → CallsServeTheirDomain
     (next_call scripts fd (client (at buffered q d) run script)) r
 client-takes steps own scripts m n fd c worker buffered q d None script r received (OfFile o) after order open_on going
     has
-    step learns at_is on busy =
-    let none = file-learns (is_for_script scripts q) d r received o after learns in
+    step updates at_is on busy =
+    let none = file-updates (is_for_script scripts q) d r received o after updates in
     let takes =
     conn-takes own m n order fd c open_on buffered script q (response q o) r received (is_for_script scripts q)
     d has.has step at_is on busy in
     omega (arith, none, takes)
 client-takes steps own scripts m n fd c worker buffered q d (Some y) script r received (OfFile o) after order open_on
     going
-    has step learns at_is on busy = absurd (let none = has.none in cc (none))
+    has step updates at_is on busy = absurd (let none = has.none in cc (none))
 client-takes steps own scripts m n fd c worker buffered (refuse status head_only close) d run script r received
-    (OfScript text o) after order open_on going has step learns at_is on busy = absurd has
+    (OfScript text o) after order open_on going has step updates at_is on busy = absurd has
 client-takes steps own scripts m n fd c worker buffered (serve w) d None script r received (OfScript text o) after order
-    open_on going has step learns at_is on busy =
-    let same = script-learns (is_for_script scripts (serve w)) d r received text o after has.read learns in
+    open_on going has step updates at_is on busy =
+    let same = script-updates (is_for_script scripts (serve w)) d r received text o after has.read updates in
     let takes = conn-takes own m n order fd c open_on buffered script (serve w) (script_text w) r received
     (is_for_script scripts (serve w)) d has.has step at_is on busy in
     omega (arith, same, takes)
 client-takes steps own scripts m n fd c worker buffered (serve w) d (Some y) script r received (OfScript text o) after
     order
-    open_on going has step learns at_is on busy =
+    open_on going has step updates at_is on busy =
     run-takes steps own m n fd c worker buffered d script w y r received text o after order open_on going has step
-    learns
+    updates
     at_is on

@@ -31,7 +31,8 @@ use Rattle.flash_laws.specs.Answers.{response}
 use Rattle.flash_laws.specs.Conn.{Following, Conn, has_followed, file_result_agg, content_agg, uses_agg, uses_fd}
 use Rattle.flash_laws.specs.Conn.{name_of, text_of, is_head_only, most_buffered, most_read, piece_end, count_of}
 use Rattle.flash_laws.specs.Conn.{next_call}
-use Rattle.flash_laws.specs.Conn.{sends_of, put_out, resolved, following, headed, proceeds, drops_next, after_receive}
+use Rattle.flash_laws.specs.Conn.{sends_of, script_payload, resolved, following, headed, proceeds, drops_next}
+use Rattle.flash_laws.specs.Conn.{after_receive}
 use Rattle.flash_laws.specs.Conn.{after_reply, after_taking, whole}
 use Rattle.flash_laws.specs.declared.phase.FileResult.{FileResult}
 use Rattle.flash_laws.specs.declared.phase.FileResult.TheVariants.{File, Length, Fails, Text as TextOf}
@@ -68,7 +69,7 @@ resolved-uses (serve w) (File b len) a u = by (selected w.range len)
 resolved-uses (refuse status head_only close) (File b len) a u = u
 resolved-uses q (Length len) a u = absurd (cc (u))
 resolved-uses q (Fails status) a u = absurd (cc (u))
-resolved-uses x (TextOf b runs) a u = former_of (b == a) (content_agg (put_out runs) a) u
+resolved-uses x (TextOf b runs) a u = former_of (b == a) (content_agg (script_payload runs) a) u
 
 following-uses : (k : Payload) (a : ℕ) → content_agg k a ≡ true → has_followed (following k) a ≡ true
 following-uses (Body b size len) a u = u

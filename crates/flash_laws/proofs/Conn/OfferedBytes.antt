@@ -33,7 +33,7 @@ use Rattle.flash_laws.specs.declared.phase.Phase.TheVariants.{Receiving, Opening
 use Rattle.flash_laws.specs.declared.phase.Phase.TheVariants.{SendingWhole, SendingPiece, DroppingSent}
 use Rattle.flash_laws.specs.Conn.Fits.{IsFile, Has, is_closing, Names}
 use Rattle.flash_laws.specs.Site.{server}
-use Rattle.flash_laws.specs.Conn.OfferedBytes.{HasAnswer, FirstCall, Learns, taken_of, IsNextOf, OffersTheResponse}
+use Rattle.flash_laws.specs.Conn.OfferedBytes.{HasAnswer, FirstCall, Updates, taken_of, IsNextOf, OffersTheResponse}
 use Rattle.flash_laws.proofs.Forms.{at}
 use Rattle.flash_laws.proofs.Conn.Responses.{some-inj}
 use Rattle.flash_laws.proofs.Counts.{counted, short-take}
@@ -85,7 +85,7 @@ module _ (steps : EachStepLeavesTheRest) (own : CallsServeTheirDomain) (files : 
     (m n : State) (order : IsOrderly m) (lives : is_live m server ≡ true) (buffered : List ℕ) where
   -- the outcome after a reply, for which the machine has the data of the next phase
   abbrev AfterReply : Answer → Phase → Reply → (received : List ℕ) → Outcome → Type 0
-  AfterReply q d r received before = (after : Outcome) × Learns d r received before after
+  AfterReply q d r received before = (after : Outcome) × Updates d r received before after
       × HasAnswer n (after_reply (at buffered q d) r received) after
 
   opens : (q : Answer) (r : Reply) (received : List ℕ) (before : Outcome)

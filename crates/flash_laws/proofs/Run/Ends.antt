@@ -11,7 +11,7 @@ use Rattle.flash_laws.specs.Conn.{Following, count_of}
 use Rattle.iol_core.specs.State.{State}
 use Rattle.flash_laws.specs.Client.ResponseState.{IsTaken, IsAfter}
 use Rattle.flash_laws.specs.Run.Fits.{Progress, Broken, IsLeft, HasNone, HasLeft, HasRun}
-use Rattle.flash_laws.specs.Run.{is_again, is_left, is_over, next_call, after_reply, after_step, holding, hearing}
+use Rattle.flash_laws.specs.Run.{is_again, is_left, is_over, next_call, after_reply, after_step, holding, on_output}
 use Rattle.flash_laws.specs.Run.{filled}
 use Rattle.flash_laws.specs.Run.{finishing, both}
 use Rattle.flash_laws.specs.declared.phase.Phase.{Phase}
@@ -96,12 +96,12 @@ holding-forgets run held size frame = by (nat_lt size CHUNK_BYTES) frame
     by false None = refl
     by false (Some f) = refl
 
-hearing-forgets : (run : Run) (b c : Bool) (held : Following) (frame : Option ℕ) (a len : ℕ)
-    → Forgets (InProgress run (hearing b c held frame a len))
-hearing-forgets run true c held frame a len = refl
-hearing-forgets run false false held frame a len = refl
-hearing-forgets run false true None frame a len = holding-forgets run a len frame
-hearing-forgets run false true (Some x) frame a len = refl
+on_output-forgets : (run : Run) (b c : Bool) (held : Following) (frame : Option ℕ) (a len : ℕ)
+    → Forgets (InProgress run (on_output b c held frame a len))
+on_output-forgets run true c held frame a len = refl
+on_output-forgets run false false held frame a len = refl
+on_output-forgets run false true None frame a len = holding-forgets run a len frame
+on_output-forgets run false true (Some x) frame a len = refl
 
 finishing-forgets : (b c : Bool) (run : Run) (held : Following) → Forgets (finishing b c run held)
 finishing-forgets false true run held = refl
@@ -122,7 +122,7 @@ step-forgets w run (SendingPart (phase.DroppingSent a taken None) frame) reply.D
 step-forgets w run (SendingPart (phase.Aborting a None) frame) reply.Done received was = refl
 step-forgets w run (ReadingOutput held frame) (reply.Agg n) [] was = refl
 step-forgets w run (ReadingOutput held frame) (reply.Agg n) (b ∷ received) was =
-    hearing-forgets run run.broken w.chunked held frame n (count_of (b ∷ received))
+    on_output-forgets run run.broken w.chunked held frame n (count_of (b ∷ received))
 step-forgets w run (ReadingOutput None frame) (reply.Refused (no.Denied p)) received was = refl
 step-forgets w run (ReadingOutput (Some x) frame) (reply.Refused (no.Denied p)) received was = refl
 step-forgets w run (DroppingOutput a frame) reply.Done received was = refl

@@ -23,7 +23,7 @@ use Rattle.flash_laws.specs.Conn.{Following, has_followed, count_of}
 use Rattle.flash_laws.specs.Run.Fits.{Progress, Goes, Ends, IsHeld, HasReceived, HasAll, HasPart, HasStep, HasRun}
 use Rattle.flash_laws.specs.Run.Holdings.{has_end}
 use Rattle.flash_laws.specs.Run.{both, worker_domain, has_frame, step_agg, ends_of, uses_agg, step_call, next_call}
-use Rattle.flash_laws.specs.Run.{is_again, after_give, after_sending, after_output, filled, holding, hearing, unread}
+use Rattle.flash_laws.specs.Run.{is_again, after_give, after_sending, after_output, filled, holding, on_output, unread}
 use Rattle.flash_laws.specs.Run.{finishing, after_step, after_reply}
 use Rattle.flash_laws.specs.Site.{server}
 use Rattle.flash_laws.specs.declared.phase.Phase.{Phase}
@@ -103,31 +103,31 @@ holding-new n size frame a u = by (nat_lt size CHUNK_BYTES)
     by false = set frame
 
 -- the held output and the frame are used after output was read, too
-hearing-uses : (m : State) (w : Wanted) (o : Progress) (c d : Bool) (held : Following) (frame : Option ℕ) (n len : ℕ)
+on_output-uses : (m : State) (w : Wanted) (o : Progress) (c d : Bool) (held : Following) (frame : Option ℕ) (n len : ℕ)
     (bytes : List ℕ) (a : ℕ)
     → IsHeld m w held bytes → Goes c w o bytes → w.chunked ≡ d → (has_followed held a || has_frame frame a) ≡ true
-    → step_agg (hearing c d held frame n len) a ≡ true
-hearing-uses m w o true d held frame n len bytes a holds goes is u =
+    → step_agg (on_output c d held frame n len) a ≡ true
+on_output-uses m w o true d held frame n len bytes a holds goes is u =
     later_of (n == a) (has_frame frame a)
     (later_by (has_followed held a) (has_frame frame a) u (unheld held a (held-none m w held bytes holds goes.1)))
-hearing-uses m w o false false held frame n len bytes a holds goes is u =
+on_output-uses m w o false false held frame n len bytes a holds goes is u =
     later_of ((n == a) || false) (has_frame frame a)
     (later_by (has_followed held a) (has_frame frame a) u (unheld held a (held-plain m w held bytes holds is)))
-hearing-uses m w o false true None frame n len bytes a holds goes is u = holding-frame n len frame a u
-hearing-uses m w o false true (Some x) frame n len bytes a holds goes is u = by (x.0 == a) u
+on_output-uses m w o false true None frame n len bytes a holds goes is u = holding-frame n len frame a u
+on_output-uses m w o false true (Some x) frame n len bytes a holds goes is u = by (x.0 == a) u
   where
     by : (b : Bool) → (b || has_frame frame a) ≡ true → (b || ((n == a) || has_frame frame a)) ≡ true
     by true u = refl
     by false u = later_of (n == a) (has_frame frame a) u
 
 -- so is the output that was read
-pub hearing-new : (c d : Bool) (held : Following) (frame : Option ℕ) (n len a : ℕ) → (n == a) ≡ true
-    → step_agg (hearing c d held frame n len) a ≡ true
-hearing-new true d held frame n len a u = former_of (n == a) (has_frame frame a) u
-hearing-new false false held frame n len a u =
+pub on_output-new : (c d : Bool) (held : Following) (frame : Option ℕ) (n len a : ℕ) → (n == a) ≡ true
+    → step_agg (on_output c d held frame n len) a ≡ true
+on_output-new true d held frame n len a u = former_of (n == a) (has_frame frame a) u
+on_output-new false false held frame n len a u =
     former_of ((n == a) || false) (has_frame frame a) (former_of (n == a) false u)
-hearing-new false true None frame n len a u = holding-new n len frame a u
-hearing-new false true (Some x) frame n len a u =
+on_output-new false true None frame n len a u = holding-new n len frame a u
+on_output-new false true (Some x) frame n len a u =
     later_of (x.0 == a) ((n == a) || has_frame frame a) (former_of (n == a) (has_frame frame a) u)
 
 unread-uses : (held : Following) (frame : Option ℕ) (a : ℕ) → (has_followed held a || has_frame frame a) ≡ true
@@ -194,8 +194,9 @@ module _ (job : ℕ → List ℕ) (m : State) (fd : ℕ) (w : Wanted) (o : Progr
       (later_of (n == a) (has_followed held a || has_frame frame a) u)
       unused)
   receives held frame (reply.Agg n) (b ∷ received) h u unused =
-      absurd (clash (step_agg (hearing run.broken w.chunked held frame n (count_of (b ∷ received))) a)
-      (hearing-uses m w o run.broken w.chunked held frame n (count_of (b ∷ received)) h.bytes a h.has.holds h.goes refl
+      absurd (clash (step_agg (on_output run.broken w.chunked held frame n (count_of (b ∷ received))) a)
+      (on_output-uses m w o run.broken w.chunked held frame n (count_of (b ∷ received)) h.bytes a h.has.holds h.goes
+      refl
       u) unused)
   receives held frame (reply.Refused (no.Denied p)) received h u unused =
       absurd (clash (step_agg (unread held frame) a) (unread-uses held frame a u) unused)
@@ -360,12 +361,12 @@ module _ (own : CallsServeTheirDomain) (job : ℕ → List ℕ) (m n : State) (f
       by false None = refl
       by false (Some f) = refl
 
-  hearing-ends : (c d : Bool) (held : Following) (frame : Option ℕ) (k len : ℕ)
-      → has_end (InProgress run (hearing c d held frame k len)) g ≡ ((run.from == g) || false)
-  hearing-ends true d held frame k len = refl
-  hearing-ends false false held frame k len = refl
-  hearing-ends false true None frame k len = holding-ends k len frame
-  hearing-ends false true (Some x) frame k len = refl
+  on_output-ends : (c d : Bool) (held : Following) (frame : Option ℕ) (k len : ℕ)
+      → has_end (InProgress run (on_output c d held frame k len)) g ≡ ((run.from == g) || false)
+  on_output-ends true d held frame k len = refl
+  on_output-ends false false held frame k len = refl
+  on_output-ends false true None frame k len = holding-ends k len frame
+  on_output-ends false true (Some x) frame k len = refl
 
   sending-ends : (d : Phase) (frame : Option ℕ) (r : Reply)
       → has_end (after_sending run d frame r) g ≡ ((run.from == g) || false)
@@ -377,7 +378,7 @@ module _ (own : CallsServeTheirDomain) (job : ℕ → List ℕ) (m n : State) (f
       → has_end (after_output w run held frame r received) g ≡ ((run.from == g) || false)
   receives-ends held frame (reply.Agg k) [] = refl
   receives-ends held frame (reply.Agg k) (b ∷ received) =
-      hearing-ends run.broken w.chunked held frame k (count_of (b ∷ received))
+      on_output-ends run.broken w.chunked held frame k (count_of (b ∷ received))
   receives-ends None frame (reply.Refused (no.Denied p)) received = refl
   receives-ends (Some x) frame (reply.Refused (no.Denied p)) received = refl
   receives-ends held frame r received = refl

@@ -17,7 +17,7 @@ use Rattle.flash_laws.specs.Run.{both, worker_domain, job_pipe, held_size, in_ph
 use Rattle.flash_laws.specs.Run.{after_make, after_hand, after_release_job, after_head, after_sending, after_spill}
 use Rattle.flash_laws.specs.Run.{after_gather, after_frame, after_wrap, after_trim, after_ended, after_release_held}
 use Rattle.flash_laws.specs.Run.{after_wrap_last, after_trim_last, after_return, after_lapse, after_output, after_stop}
-use Rattle.flash_laws.specs.Run.{after_release_frame, after_last, after_unwrap, after_fail, filled, holding, hearing}
+use Rattle.flash_laws.specs.Run.{after_release_frame, after_last, after_unwrap, after_fail, filled, holding, on_output}
 use Rattle.flash_laws.specs.Run.{finishing, stopped, ending, after_step, after_reply, is_left, is_over}
 use Rattle.flash_laws.specs.Answers.Scripts.{script_text, frame_of, place_in_frame, end_around}
 use Rattle.flash_laws.specs.Site.{server}
@@ -106,12 +106,12 @@ module _ (run : Run) where
       by false None same = cc (same)
       by false (Some g) same = cc (same)
 
-  hearing-not : (b c : Bool) (held : Following) (frame : Option ℕ) (a len : ℕ)
-      → InProgress run (hearing b c held frame a len) ≡ InProgress run (ReadingOutput held frame) → ⊥
-  hearing-not true c held frame a len same = cc (same)
-  hearing-not false false held frame a len same = cc (same)
-  hearing-not false true (Some x) frame a len same = cc (same)
-  hearing-not false true None frame a len same = by (nat_lt len CHUNK_BYTES) frame same
+  on_output-not : (b c : Bool) (held : Following) (frame : Option ℕ) (a len : ℕ)
+      → InProgress run (on_output b c held frame a len) ≡ InProgress run (ReadingOutput held frame) → ⊥
+  on_output-not true c held frame a len same = cc (same)
+  on_output-not false false held frame a len same = cc (same)
+  on_output-not false true (Some x) frame a len same = cc (same)
+  on_output-not false true None frame a len same = by (nat_lt len CHUNK_BYTES) frame same
     where
       by : (t : Bool) (frame : Option ℕ)
           → InProgress run (if t then ReadingOutput (Some (a, len)) frame else filled a frame)
@@ -124,7 +124,7 @@ module _ (run : Run) where
       → after_output w run held frame (reply.Agg k) received ≡ InProgress run (ReadingOutput held frame) → ⊥
   receives-not w held frame [] k same = cc (same)
   receives-not w held frame (b ∷ received) k same =
-      hearing-not run.broken w.chunked held frame k (count_of (b ∷ received)) same
+      on_output-not run.broken w.chunked held frame k (count_of (b ∷ received)) same
 
   finishing-not : (b c : Bool) (held : Following) (s : Step)
       → ((x : Following) → InProgress run (MakingEnd x) ≡ InProgress run s → ⊥)

@@ -26,7 +26,7 @@ use Rattle.flash_laws.specs.Conn.Fits.{Has, Names}
 use Rattle.flash_laws.specs.Conn.OfferedBytes.{taken_of}
 use Rattle.flash_laws.specs.Run.Fits.{Progress, Ran, Broken, NotRun, Follows, MayAnswer, Continues, IsLeft, HasJobPipe}
 use Rattle.flash_laws.specs.Run.Fits.{HasPart, HasRest, HasLeft, HasRun}
-use Rattle.flash_laws.specs.Run.OfferedBytes.{takes_on, Learns, taken_by, past_of, IsNextOf, HasWorker}
+use Rattle.flash_laws.specs.Run.OfferedBytes.{takes_on, Updates, taken_by, past_of, IsNextOf, HasWorker}
 use Rattle.flash_laws.specs.Run.OfferedBytes.{RunsOfferTheResponse}
 use Rattle.flash_laws.specs.Run.{worker_domain, job_pipe, held_size, in_phase, next_call, broken, after_sending}
 use Rattle.flash_laws.specs.Run.{after_output, finishing, after_reply, is_left, is_over, stopped, ending, sends_part}
@@ -66,7 +66,7 @@ use Rattle.flash_laws.proofs.Lists.{not-false}
 module _ (steps : EachStepLeavesTheRest) (own : CallsServeTheirDomain) (m n : State) (order : IsOrderly m) (job : ℕ
     → List ℕ) (w : Wanted) where
   abbrev AfterReply : Running → Running → Reply → List ℕ → Progress → Type 0
-  AfterReply x y r received before = (after : Progress) × Learns m x r received before after × HasRun job n w after y
+  AfterReply x y r received before = (after : Progress) × Updates m x r received before after × HasRun job n w after y
 
   module _ (run : Run) (hired : HasJobPipe m run.worker) (fd c : ℕ)
       (open_on : descriptor m server fd ≡ Some (on.Connection c)) (frame : Option ℕ) where

@@ -8,7 +8,7 @@ use Rattle.flash_http.specs.Request.{Wanted}
 use Rattle.flash_laws.specs.Conn.{Following, count_of}
 use Rattle.flash_laws.specs.Run.OfferedBytes.{is_stopping, StopsBy}
 use Rattle.flash_laws.specs.Run.{both, is_again, after_give, after_hand, after_sending, after_output, holding}
-use Rattle.flash_laws.specs.Run.{hearing, after_reply}
+use Rattle.flash_laws.specs.Run.{on_output, after_reply}
 use Rattle.flash_laws.specs.declared.phase.Phase.{Phase}
 use Rattle.flash_laws.specs.declared.phase.Phase.TheVariants as phase
 use Rattle.flash_laws.specs.declared.script_run.TheConstants.{CHUNK_BYTES}
@@ -50,19 +50,19 @@ module _ (run : Run) where
   holds held size None = either-way Going (nat_lt size CHUNK_BYTES) refl refl
   holds held size (Some f) = either-way Going (nat_lt size CHUNK_BYTES) refl refl
 
-  hearing-on : (b c : Bool) (held : Following) (frame : Option ℕ) (a len : ℕ) → Going (hearing b c held frame a len)
-  hearing-on true c held frame a len = refl
-  hearing-on false false held frame a len = refl
-  hearing-on false true None frame a len = holds a len frame
-  hearing-on false true (Some x) frame a len = refl
+  on_output-on : (b c : Bool) (held : Following) (frame : Option ℕ) (a len : ℕ) → Going (on_output b c held frame a len)
+  on_output-on true c held frame a len = refl
+  on_output-on false false held frame a len = refl
+  on_output-on false true None frame a len = holds a len frame
+  on_output-on false true (Some x) frame a len = refl
 
   receives : (w : Wanted) (held : Following) (frame : Option ℕ) (r : Reply) (received : List ℕ)
       → is_stopping (after_output w run held frame r received) ≡ true
       → StopsBy (InProgress run (ReadingOutput held frame)) r received
   receives w held frame (reply.Agg n) [] z = refl
   receives w held frame (reply.Agg n) (b ∷ received) z =
-      let next = InProgress run (hearing run.broken w.chunked held frame n (count_of (b ∷ received))) in
-      absurd (clash (is_stopping next) z (hearing-on run.broken w.chunked held frame n (count_of (b ∷ received))))
+      let next = InProgress run (on_output run.broken w.chunked held frame n (count_of (b ∷ received))) in
+      absurd (clash (is_stopping next) z (on_output-on run.broken w.chunked held frame n (count_of (b ∷ received))))
   receives w held frame (reply.Refused (no.Denied p)) received z = tt
   receives w held frame r received z = absurd (cc (z))
 

@@ -46,7 +46,7 @@ use Rattle.flash_laws.proofs.Conn.Holdings.{headed-first}
 use Rattle.flash_laws.proofs.Lists.{later_of, former_of, not-false}
 use Rattle.flash_laws.proofs.Run.Alone.{keeps-alone, opened}
 use Rattle.flash_laws.proofs.Run.Rest.{is-rest}
-use Rattle.flash_laws.proofs.Run.Holdings.{holding-new, hearing-new, left, shut}
+use Rattle.flash_laws.proofs.Run.Holdings.{holding-new, on_output-new, left, shut}
 
 module _ (come : AggregatesComeAndGo) (own : CallsServeTheirDomain) (m n : State) (order : IsOrderly m)
     (a : ℕ) (bytes : List ℕ) (before : readable_at m server a ≡ None) (after : readable_at n server a ≡ Some bytes)
@@ -128,7 +128,7 @@ module _ (come : AggregatesComeAndGo) (own : CallsServeTheirDomain) (m n : State
               → uses_agg (after_output w run held frame r received) a ≡ true
           by (reply.Agg k) [] did is = former_of (k == a) (has_followed held a || has_frame frame a) is
           by (reply.Agg k) (b ∷ received) did is =
-              hearing-new run.broken w.chunked held frame k (count_of (b ∷ received)) a is
+              on_output-new run.broken w.chunked held frame k (count_of (b ∷ received)) a is
           by (reply.Refused x) received did is = absurd (cc (is))
           by r received did is = absurd did
 

@@ -27,7 +27,7 @@ use Rattle.flash_laws.specs.Conn.Progress.{is_busy}
 use Rattle.flash_laws.specs.Run.Fits.{Progress, Ran, Broken, NotRun, IsLeft, HasNone, sent_agg, IsPart, IsSending}
 use Rattle.flash_laws.specs.Run.Fits.{last_agg, HasRest, HasLeft}
 use Rattle.flash_laws.specs.Conn.OfferedBytes.{taken_of, newly_taken, is_dropping}
-use Rattle.flash_laws.specs.Run.OfferedBytes.{takes_on, PartLearns}
+use Rattle.flash_laws.specs.Run.OfferedBytes.{takes_on, PartUpdates}
 use Rattle.flash_laws.specs.Run.{in_phase, is_left}
 use Rattle.flash_laws.specs.Site.{server}
 use Rattle.flash_laws.specs.declared.phase.Payload.TheVariants.{Error}
@@ -202,7 +202,7 @@ module _ (steps : EachStepLeavesTheRest) (own : CallsServeTheirDomain) (m n : St
 
   -- the known part of the response after the reply, and the rest that is left
   abbrev AfterReply : Phase → Phase → Reply → Progress → Type 0
-  AfterReply d e r before = (after : Progress) × PartLearns m d r before after × HasLeft n w after e
+  AfterReply d e r before = (after : Progress) × PartUpdates m d r before after × HasLeft n w after e
 
   heads : (status : ℕ) (r : Reply) (received : List ℕ) (o : Progress) → IsLeft w o expected
       → Has m (serve w) expected (phase.MakingHead (Error status))

@@ -6,7 +6,7 @@ use Rattle.iol_core.specs.declared.events.Reply.{Reply}
 use Rattle.iol_core.specs.declared.events.Reply.TheVariants as reply
 use Rattle.flash_http.specs.Request.{Wanted}
 use Rattle.flash_laws.specs.Conn.{Following, count_of}
-use Rattle.flash_laws.specs.Run.{after_reply, after_step, holding, hearing, filled, finishing, both}
+use Rattle.flash_laws.specs.Run.{after_reply, after_step, holding, on_output, filled, finishing, both}
 use Rattle.flash_laws.specs.Run.WorkerStates.{is_starting}
 use Rattle.flash_laws.specs.declared.phase.Phase.TheVariants as phase
 use Rattle.flash_laws.specs.declared.script_run.TheConstants.{CHUNK_BYTES}
@@ -36,12 +36,12 @@ holding-started run held size frame = by (nat_lt size CHUNK_BYTES) frame
     by false None = refl
     by false (Some f) = refl
 
-hearing-started : (run : Run) (b c : Bool) (held : Following) (frame : Option ℕ) (a len : ℕ)
-    → HasStarted (InProgress run (hearing b c held frame a len))
-hearing-started run true c held frame a len = refl
-hearing-started run false false held frame a len = refl
-hearing-started run false true None frame a len = holding-started run a len frame
-hearing-started run false true (Some x) frame a len = refl
+on_output-started : (run : Run) (b c : Bool) (held : Following) (frame : Option ℕ) (a len : ℕ)
+    → HasStarted (InProgress run (on_output b c held frame a len))
+on_output-started run true c held frame a len = refl
+on_output-started run false false held frame a len = refl
+on_output-started run false true None frame a len = holding-started run a len frame
+on_output-started run false true (Some x) frame a len = refl
 
 finishing-started : (b c : Bool) (run : Run) (held : Following) → HasStarted (finishing b c run held)
 finishing-started false true run held = refl
@@ -60,7 +60,7 @@ step-started w run (SendingPart (phase.DroppingSent a taken None) frame) reply.D
 step-started w run (SendingPart (phase.Aborting a None) frame) reply.Done received was = refl
 step-started w run (ReadingOutput held frame) (reply.Agg n) [] was = refl
 step-started w run (ReadingOutput held frame) (reply.Agg n) (b ∷ received) was =
-    hearing-started run run.broken w.chunked held frame n (count_of (b ∷ received))
+    on_output-started run run.broken w.chunked held frame n (count_of (b ∷ received))
 step-started w run (ReadingOutput None frame) (reply.Refused (no.Denied p)) received was = refl
 step-started w run (ReadingOutput (Some x) frame) (reply.Refused (no.Denied p)) received was = refl
 step-started w run (DroppingOutput a frame) reply.Done received was = refl

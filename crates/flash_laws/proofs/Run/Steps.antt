@@ -28,10 +28,10 @@ use Rattle.flash_laws.specs.Conn.Fits.{Names, Has}
 use Rattle.flash_laws.specs.Run.Fits.{Progress, Broken, nothing_yet, HoldsBack, Continues, Goes, HasJobPipe, IsReading}
 use Rattle.flash_laws.specs.Run.Fits.{IsHeld, HasFrame, meets, HasOutput, HasReceived, sends_frame, HasChunk, HasStep}
 use Rattle.flash_laws.specs.Run.Fits.{HasRun}
-use Rattle.flash_laws.specs.Run.OfferedBytes.{receives_on, Learns}
+use Rattle.flash_laws.specs.Run.OfferedBytes.{receives_on, Updates}
 use Rattle.flash_laws.specs.Run.{both, worker_domain, job_pipe, has_frame, step_agg, uses_fd, held_size, is_again}
 use Rattle.flash_laws.specs.Run.{broken, after_wait, after_give, after_make, after_hand, after_head, filled, holding}
-use Rattle.flash_laws.specs.Run.{hearing, unread, after_output, after_gather, after_frame, after_wrap, sends_part}
+use Rattle.flash_laws.specs.Run.{on_output, unread, after_output, after_gather, after_frame, after_wrap, sends_part}
 use Rattle.flash_laws.specs.Answers.Scripts.{script_text, frame_of, place_in_frame}
 use Rattle.flash_laws.specs.Site.{server}
 use Rattle.flash_laws.specs.declared.script_run.TheConstants.{CHUNK_BYTES}
@@ -73,7 +73,7 @@ begun n w a len part is_readable size = (
 module _ (steps : EachStepLeavesTheRest) (own : CallsServeTheirDomain) (m n : State) (order : IsOrderly m) (job : ℕ
     → List ℕ) (w : Wanted) where
   abbrev AfterReply : Running → Running → Reply → List ℕ → Progress → Type 0
-  AfterReply x y r received before = (after : Progress) × Learns m x r received before after × HasRun job n w after y
+  AfterReply x y r received before = (after : Progress) × Updates m x r received before after × HasRun job n w after y
 
   pub is_readable : (k : Call) (r : Reply) → StepsTo m (event.Call server k) r n → (a : ℕ) (bytes : List ℕ)
       → gives_up (event.Call server k) server a ≡ false → readable_at m server a ≡ Some bytes
@@ -303,7 +303,8 @@ module _ (steps : EachStepLeavesTheRest) (own : CallsServeTheirDomain) (m n : St
         (h : HasReceived n w o run held frame)
         → readable_at n server x ≡ Some (b ∷ new) → length (b ∷ new) ≤ CHUNK_BYTES - held_size held
         → has_followed held x ≡ false → has_frame frame x ≡ false
-        → HasStep job n w (receives_on o (b ∷ new)) run (hearing run.broken w.chunked held frame x (count_of (b ∷ new)))
+        → HasStep job n w (receives_on o (b ∷ new)) run (on_output run.broken w.chunked held frame x
+        (count_of (b ∷ new)))
     received-now held frame x b new o h readable short other apart =
         by run.broken w.chunked held h.has.holds h.has.apart short other refl refl h.goes
       where
@@ -314,7 +315,7 @@ module _ (steps : EachStepLeavesTheRest) (own : CallsServeTheirDomain) (m n : St
             → length (b ∷ new) ≤ CHUNK_BYTES - held_size held
             → has_followed held x ≡ false → run.broken ≡ c → w.chunked ≡ d
             → Goes c w o h.bytes
-            → HasStep job n w (receives_on o (b ∷ new)) run (hearing c d held frame x (count_of (b ∷ new)))
+            → HasStep job n w (receives_on o (b ∷ new)) run (on_output c d held frame x (count_of (b ∷ new)))
         by true d held holds off short other is_c is_d goes = (
           ((b ∷ new, readable), apart),
           record {

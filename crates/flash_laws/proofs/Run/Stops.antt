@@ -24,7 +24,7 @@ use Rattle.flash_laws.specs.Conn.{Following, has_followed, count_of}
 use Rattle.flash_laws.specs.Conn.Fits.{Names}
 use Rattle.flash_laws.specs.Run.Fits.{Progress, Ran, Broken, NotRun, IsLeft, Ends, HasJobPipe, IsReading, IsHeld, meets}
 use Rattle.flash_laws.specs.Run.Fits.{HasAll, HasStep, HasNone, HasRun}
-use Rattle.flash_laws.specs.Run.OfferedBytes.{Learns}
+use Rattle.flash_laws.specs.Run.OfferedBytes.{Updates}
 use Rattle.flash_laws.specs.Run.{job_pipe, step_agg, uses_fd, finishing, stopped, after_stop, after_release_frame}
 use Rattle.flash_laws.specs.Run.{ending, after_last, after_wrap_last, after_unwrap, after_return, after_fail}
 use Rattle.flash_laws.specs.Run.{sends_part}
@@ -51,7 +51,7 @@ use Rattle.flash_laws.proofs.Run.Steps.{begun}
 module _ (steps : EachStepLeavesTheRest) (own : CallsServeTheirDomain) (m n : State) (order : IsOrderly m) (job : ℕ
     → List ℕ) (w : Wanted) where
   abbrev AfterReply : Running → Running → Reply → List ℕ → Progress → Type 0
-  AfterReply x y r received before = (after : Progress) × Learns m x r received before after × HasRun job n w after y
+  AfterReply x y r received before = (after : Progress) × Updates m x r received before after × HasRun job n w after y
 
   -- ---- lemmas about these states
 

@@ -26,7 +26,8 @@ use Rattle.flash_laws.specs.Conn.Progress.{is_busy}
 use Rattle.flash_laws.specs.Run.Fits.{Progress, Ran, Broken, NotRun, IsLeft, Continues, HasPart, HasRest, HasStep}
 use Rattle.flash_laws.specs.Run.Fits.{HasRun}
 use Rattle.flash_laws.specs.Conn.OfferedBytes.{taken_of, newly_taken, is_dropping}
-use Rattle.flash_laws.specs.Run.OfferedBytes.{receives_on, takes_on, PartLearns, StepLearns, Learns, taken_by, past_of}
+use Rattle.flash_laws.specs.Run.OfferedBytes.{receives_on, takes_on, PartUpdates, StepUpdates, Updates, taken_by}
+use Rattle.flash_laws.specs.Run.OfferedBytes.{past_of}
 use Rattle.flash_laws.specs.Run.OfferedBytes.{breaks_off, IsCutOff, is_failing, IsLost, ComesAfter}
 use Rattle.flash_laws.specs.Run.{worker_domain, job_pipe, held_size, in_phase, step_call, next_call, is_again}
 use Rattle.flash_laws.specs.Run.{after_give}
@@ -90,15 +91,16 @@ bars-breaks w run s r received bars = absurd bars
 module _ (job : ℕ → List ℕ) (m : State) (w : Wanted) (run : Run) where
   past-step : (s : Step) (r : Reply) (received : List ℕ) (before after : Progress) → is_part s ≡ false
       → HasStep job m w before run s → (Bars s r → ⊥)
-      → StepLearns m s r received before after → past_of after ≡ past_of before
-  past-step (SendingPart d frame) r received before after plain has open_yet learns = absurd (cc (plain))
-  past-step (ReadingOutput held frame) (reply.Agg n) received before after plain has open_yet learns =
-      ap (λ (o : Progress). past_of o) learns ∙ past-receives before received
-  past-step (ReadingOutput held frame) (reply.Refused (no.Denied p)) received before after plain has open_yet learns =
+      → StepUpdates m s r received before after → past_of after ≡ past_of before
+  past-step (SendingPart d frame) r received before after plain has open_yet updates = absurd (cc (plain))
+  past-step (ReadingOutput held frame) (reply.Agg n) received before after plain has open_yet updates =
+      ap (λ (o : Progress). past_of o) updates ∙ past-receives before received
+  past-step (ReadingOutput held frame) (reply.Refused (no.Denied p)) received before after plain has open_yet updates =
       absurd (open_yet tt)
-  past-step Failing reply.Done received before after plain has open_yet learns = ap (λ (o : Progress). past_of o) learns
+  past-step Failing reply.Done received before after plain has open_yet updates =
+      ap (λ (o : Progress). past_of o) updates
       ∙ sym (ap (λ (o : Progress). past_of o) has.1.1)
-  past-step s r received before after plain has open_yet learns = ap (λ (o : Progress). past_of o) learns
+  past-step s r received before after plain has open_yet updates = ap (λ (o : Progress). past_of o) updates
 
 -- the descriptor of the job pipe is not the connection's
 job-elsewhere : (m : State) (fd c p worker : ℕ) → descriptor m server fd ≡ Some (on.Connection c)
@@ -131,12 +133,12 @@ module _ (steps : EachStepLeavesTheRest) (own : CallsServeTheirDomain) (m n : St
   whole : (expected : List ℕ) (a taken : ℕ) (before after : Progress)
       → SendsAll m w expected (phase.DroppingSent a taken None)
       → (before ≡ Broken → ⊥)
-      → PartLearns m (phase.DroppingSent a taken None) reply.Done before after → past_of after ≡ past_of before + taken
-  whole expected a taken before after has open_yet learns =
-      let part = some-inj learns.0 expected (sym learns.1 ∙ has.1) in
+      → PartUpdates m (phase.DroppingSent a taken None) reply.Done before after → past_of after ≡ past_of before + taken
+  whole expected a taken before after has open_yet updates =
+      let part = some-inj updates.0 expected (sym updates.1 ∙ has.1) in
       let grows = past-grows before expected open_yet in
       let all = whole-taken expected taken (sym has.0.follows ∙ has.0.next) has.2 in
-      let is = ap (λ (o : Progress). past_of o) (learns.2 ∙ ap (λ (l : List ℕ). takes_on before l) part) in
+      let is = ap (λ (o : Progress). past_of o) (updates.2 ∙ ap (λ (l : List ℕ). takes_on before l) part) in
       omega (arith, grows, all, is)
 
   -- a part is still being sent
@@ -146,89 +148,89 @@ module _ (steps : EachStepLeavesTheRest) (own : CallsServeTheirDomain) (m n : St
       → is_dropping (conn.after_reply (in_phase w d) r received).phase ≡ false → after ≡ before
       → past_of after + taken_of (conn.after_reply (in_phase w d) r received).phase ≡ past_of before + taken_of d
       + newly_taken fd (conn.next_call fd (in_phase w d)) r
-  part expected d r received before after has step unsent at on learns =
+  part expected d r received before after has step unsent at on updates =
       let counts = left.counts steps own m n order w expected fd c d r received open_on has step unsent at on in
-      let is = ap (λ (o : Progress). past_of o) learns in
+      let is = ap (λ (o : Progress). past_of o) updates in
       omega (arith, counts, is)
 
   -- the rest is being sent
   rest : (d : Phase) (r : Reply) (received : List ℕ) (before after : Progress) (h : HasRest m w before d)
-      → StepsTo m (event.Call server (conn.next_call fd (in_phase w d))) r n → PartLearns m d r before after
+      → StepsTo m (event.Call server (conn.next_call fd (in_phase w d))) r n → PartUpdates m d r before after
       → is_dropping d ≡ false
       → is_dropping (conn.after_reply (in_phase w d) r received).phase ≡ false
       → past_of after + taken_of (conn.after_reply (in_phase w d) r received).phase ≡ past_of before + taken_of d
       + newly_taken fd (conn.next_call fd (in_phase w d)) r
-  rest (phase.MakingHead (Error status)) r received before after h step learns at on =
-      let is = ap (λ (o : Progress). past_of o) learns in
+  rest (phase.MakingHead (Error status)) r received before after h step updates at on =
+      let is = ap (λ (o : Progress). past_of o) updates in
       let none = taken-headed status r received in
       omega (arith, is, none)
-  rest (phase.DroppingSent a taken None) r received before after h step learns at on =
-      by r (own.drops m n server a r order step) learns
+  rest (phase.DroppingSent a taken None) r received before after h step updates at on =
+      by r (own.drops m n server a r order step) updates
     where
-      by : (r : Reply) → caller.Drops m server a r n → PartLearns m (phase.DroppingSent a taken None) r before after
+      by : (r : Reply) → caller.Drops m server a r n → PartUpdates m (phase.DroppingSent a taken None) r before after
           → past_of after + taken_of (conn.after_taken (serve w) a taken None r) ≡ past_of before + taken + newly_taken
           fd (call.AggDrop a) r
-      by reply.Done did learns =
+      by reply.Done did updates =
           let all =
           whole h.expected a taken before after (h.has, h.sends.0, h.sends.1)
-          (left-whole w before h.expected h.left) learns in
+          (left-whole w before h.expected h.left) updates in
           let none = taken-over w.keep in
           omega (arith, all, none)
-      by (reply.Refused y) did learns = let is = ap (λ (o : Progress). past_of o) learns in omega (arith, is)
-      by r did learns = absurd did
-  rest (phase.DroppingSent a taken (Some x)) r received before after h step learns at on = absurd h.sends.0
-  rest (phase.Aborting a None) r received before after h step learns at on = absurd (cc (at))
-  rest d r received before after h step learns at on =
-      part h.expected d r received before after (h.has, h.sends.0, h.sends.1) step refl at on learns
+      by (reply.Refused y) did updates = let is = ap (λ (o : Progress). past_of o) updates in omega (arith, is)
+      by r did updates = absurd did
+  rest (phase.DroppingSent a taken (Some x)) r received before after h step updates at on = absurd h.sends.0
+  rest (phase.Aborting a None) r received before after h step updates at on = absurd (cc (at))
+  rest d r received before after h step updates at on =
+      part h.expected d r received before after (h.has, h.sends.0, h.sends.1) step refl at on updates
 
   -- a step that sends a part
   sending : (run : Run) (d : Phase) (frame : Option ℕ) (r : Reply) (before after : Progress)
       (h : HasPart m w before run d frame)
-      → StepsTo m (event.Call server (conn.next_call fd (in_phase w d))) r n → PartLearns m d r before after
+      → StepsTo m (event.Call server (conn.next_call fd (in_phase w d))) r n → PartUpdates m d r before after
       → is_dropping d ≡ false
       → breaks_off (after_sending run d frame r) ≡ false
       → past_of after + taken_by (after_sending run d frame r) ≡ past_of before + taken_of d + newly_taken fd
       (conn.next_call fd (in_phase w d)) r
-  sending run (phase.SendingWhole s) frame r before after h step learns at on =
-      part h.part (phase.SendingWhole s) r [] before after (h.has, h.is_part, h.within) step refl refl on learns
-  sending run (phase.CuttingPiece s) frame r before after h step learns at on =
+  sending run (phase.SendingWhole s) frame r before after h step updates at on =
+      part h.part (phase.SendingWhole s) r [] before after (h.has, h.is_part, h.within) step refl refl on updates
+  sending run (phase.CuttingPiece s) frame r before after h step updates at on =
       part h.part (phase.CuttingPiece s) r [] before after (h.has, h.is_part, h.within) step refl refl on
-      learns
-  sending run (phase.SendingPiece s piece) frame r before after h step learns at on =
+      updates
+  sending run (phase.SendingPiece s piece) frame r before after h step updates at on =
       part h.part (phase.SendingPiece s piece) r [] before after (h.has, h.is_part, h.within) step refl
-      refl on learns
-  sending run (phase.DroppingPiece s piece) frame r before after h step learns at on =
+      refl on updates
+  sending run (phase.DroppingPiece s piece) frame r before after h step updates at on =
       part h.part (phase.DroppingPiece s piece) r [] before after (h.has, h.is_part, h.within) step refl
-      refl on learns
-  sending run (phase.DroppingSent a taken None) frame r before after h step learns at on =
-      by r (own.drops m n server a r order step) learns
+      refl on updates
+  sending run (phase.DroppingSent a taken None) frame r before after h step updates at on =
+      by r (own.drops m n server a r order step) updates
     where
-      by : (r : Reply) → caller.Drops m server a r n → PartLearns m (phase.DroppingSent a taken None) r before after
+      by : (r : Reply) → caller.Drops m server a r n → PartUpdates m (phase.DroppingSent a taken None) r before after
           → past_of after + taken_by (after_sending run (phase.DroppingSent a taken None) frame r) ≡ past_of before
           + taken
           + newly_taken fd (call.AggDrop a) r
-      by reply.Done did learns = let all =
+      by reply.Done did updates = let all =
           whole h.part a taken before after (h.has, h.is_part, h.within) (goes-whole w before h.part h.continues)
-          learns in omega (arith, all)
-      by (reply.Refused y) did learns = let is = ap (λ (o : Progress). past_of o) learns in omega (arith, is)
-      by r did learns = absurd did
-  sending run (phase.AbortingPiece piece a None) frame r before after h step learns at on = absurd (cc (at))
-  sending run (phase.Aborting a None) frame r before after h step learns at on = absurd (cc (at))
-  sending run d frame r before after h step learns at on = absurd h.is_part
+          updates in omega (arith, all)
+      by (reply.Refused y) did updates = let is = ap (λ (o : Progress). past_of o) updates in omega (arith, is)
+      by r did updates = absurd did
+  sending run (phase.AbortingPiece piece a None) frame r before after h step updates at on = absurd (cc (at))
+  sending run (phase.Aborting a None) frame r before after h step updates at on = absurd (cc (at))
+  sending run d frame r before after h step updates at on = absurd h.is_part
 
 -- any other step
 plain-takes : (job : ℕ → List ℕ) (m : State) (w : Wanted) (run : Run) (fd c : ℕ) (s : Step) (r : Reply)
     (received : List ℕ) (before after : Progress) → is_part s ≡ false
     → descriptor m server fd ≡ Some (on.Connection c) → HasRun job m w before (InProgress run s)
-    → StepLearns m s r received before after
+    → StepUpdates m s r received before after
     → breaks_off (after_step w run s r received) ≡ false
     → past_of after + taken_by (after_step w run s r received) ≡ past_of before + taken_by (InProgress run s)
     + newly_taken fd
     (step_call job fd w run s) r
-plain-takes job m w run fd c s r received before after plain open_on has learns on =
+plain-takes job m w run fd c s r received before after plain open_on has updates on =
     let past =
     past-step job m w run s r received before after plain has.1
-    (λ bars. clash (breaks_off (after_step w run s r received)) (bars-breaks w run s r received bars) on) learns in
+    (λ bars. clash (breaks_off (after_step w run s r received)) (bars-breaks w run s r received bars) on) updates in
     let new = (takes_nothing w run s r received plain).0 in
     let was = taken-plain run s plain in
     let none = takes-nothing job m w run fd c has.0.0 s r plain open_on has.0.1 in
@@ -237,29 +239,30 @@ plain-takes job m w run fd c s r received before after plain open_on has learns 
 pub takes : (steps : EachStepLeavesTheRest) (own : CallsServeTheirDomain) (job : ℕ → List ℕ) (m n : State)
     (fd c worker : ℕ) (w : Wanted) (x : Running) (r : Reply) (received : List ℕ) (before after : Progress)
     → IsOrderly m → descriptor m server fd ≡ Some (on.Connection c) → is_over x ≡ false → HasRun job m w before x
-    → StepsTo m (event.Call server (next_call job fd w x)) r n → Learns m x r received before after
+    → StepsTo m (event.Call server (next_call job fd w x)) r n → Updates m x r received before after
     → breaks_off x ≡ false → breaks_off (after_reply worker w x r received) ≡ false
     → past_of after + taken_by (after_reply worker w x r received) ≡ past_of before + taken_by x + newly_taken fd
     (next_call job fd w x) r
-takes steps own job m n fd c worker w AwaitingWorker r received before after order open_on going has step learns at on =
+takes steps own job m n fd c worker w AwaitingWorker r received before after order open_on going has step updates at on
+    =
     by r
   where
     by : (r : Reply) → past_of after + taken_by (after_reply worker w AwaitingWorker r received) ≡ past_of before + 0
         + newly_taken fd call.Pipe r
-    by (reply.Fds from write) = let is = ap (λ (o : Progress). past_of o) learns in omega (arith, is)
-    by r = let is = ap (λ (o : Progress). past_of o) learns in omega (arith, is)
-takes steps own job m n fd c worker w (Finishing d) r received before after order open_on going has step learns at on =
+    by (reply.Fds from write) = let is = ap (λ (o : Progress). past_of o) updates in omega (arith, is)
+    by r = let is = ap (λ (o : Progress). past_of o) updates in omega (arith, is)
+takes steps own job m n fd c worker w (Finishing d) r received before after order open_on going has step updates at on =
     rest steps own m n order w fd c open_on d r received before after
-    (is-rest m w before d (not-false (is_left d) going) has) step learns at on
-takes steps own job m n fd c worker w Disconnecting r received before after order open_on going has step learns at on =
+    (is-rest m w before d (not-false (is_left d) going) has) step updates at on
+takes steps own job m n fd c worker w Disconnecting r received before after order open_on going has step updates at on =
     absurd (cc (going))
 takes steps own job m n fd c worker w (InProgress run (SendingPart d frame)) r received before after order open_on going
     has step
-    learns at on =
-    sending steps own m n order w fd c open_on run d frame r before after has.1 step learns at on
-takes steps own job m n fd c worker w (InProgress run s) r received before after order open_on going has step learns at
+    updates at on =
+    sending steps own m n order w fd c open_on run d frame r before after has.1 step updates at on
+takes steps own job m n fd c worker w (InProgress run s) r received before after order open_on going has step updates at
     on =
-    plain-takes job m w run fd c s r received before after refl open_on has learns on
+    plain-takes job m w run fd c s r received before after refl open_on has updates on
 
 -- ---- the reasons for aborting a response
 

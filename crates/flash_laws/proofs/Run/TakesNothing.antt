@@ -9,7 +9,7 @@ use Rattle.flash_http.specs.Request.{Wanted}
 use Rattle.flash_laws.specs.Conn.{Following, count_of}
 use Rattle.flash_laws.specs.Run.OfferedBytes.{taken_by, breaks_off, is_failing, is_handing, ComesAfter}
 use Rattle.flash_laws.specs.Run.{both, is_again, after_give, after_make, after_hand, after_release_job, after_output}
-use Rattle.flash_laws.specs.Run.{filled, holding, hearing, finishing, stopped, ending, after_step}
+use Rattle.flash_laws.specs.Run.{filled, holding, on_output, finishing, stopped, ending, after_step}
 use Rattle.flash_laws.proofs.Moves.{after-done, after-agg, either-way}
 use Rattle.flash_laws.specs.declared.script_run.TheConstants.{CHUNK_BYTES}
 use Rattle.flash_laws.specs.declared.script_run.Run.{Run}
@@ -102,19 +102,19 @@ module _ (w : Wanted) (run : Run) where
       by false None = (refl, λ b. inl b, λ z. absurd (cc (z)), inr tt)
       by false (Some f) = (refl, λ b. inl b, λ z. absurd (cc (z)), inr tt)
 
-  hearing-on : (s : Step) (r : Reply) (c d : Bool) (held : Following) (frame : Option ℕ) (a len : ℕ)
+  on_output-on : (s : Step) (r : Reply) (c d : Bool) (held : Following) (frame : Option ℕ) (a len : ℕ)
       → is_handing (InProgress run s) ≡ false
-      → TakesNothing run s r (InProgress run (hearing c d held frame a len))
-  hearing-on s r true d held frame a len handed = (refl, λ b. inl b, λ z. absurd (cc (z)), inr tt)
-  hearing-on s r false false held frame a len handed = (refl, λ b. absurd (cc (b)), λ z. absurd (cc (z)), inr handed)
-  hearing-on s r false true None frame a len handed = holds s r a len frame
-  hearing-on s r false true (Some x) frame a len handed = (refl, λ b. inl b, λ z. absurd (cc (z)), inr tt)
+      → TakesNothing run s r (InProgress run (on_output c d held frame a len))
+  on_output-on s r true d held frame a len handed = (refl, λ b. inl b, λ z. absurd (cc (z)), inr tt)
+  on_output-on s r false false held frame a len handed = (refl, λ b. absurd (cc (b)), λ z. absurd (cc (z)), inr handed)
+  on_output-on s r false true None frame a len handed = holds s r a len frame
+  on_output-on s r false true (Some x) frame a len handed = (refl, λ b. inl b, λ z. absurd (cc (z)), inr tt)
 
   receives : (held : Following) (frame : Option ℕ) (r : Reply) (received : List ℕ)
       → TakesNothing run (ReadingOutput held frame) r (after_output w run held frame r received)
   receives held frame (reply.Agg n) [] = (refl, λ b. inl b, λ z. absurd (cc (z)), inr tt)
   receives held frame (reply.Agg n) (b ∷ received) =
-      hearing-on (ReadingOutput held frame) (reply.Agg n) run.broken w.chunked held frame n (count_of (b ∷ received))
+      on_output-on (ReadingOutput held frame) (reply.Agg n) run.broken w.chunked held frame n (count_of (b ∷ received))
       refl
   receives None frame (reply.Refused (no.Denied p)) received = (refl, λ b. inr tt, λ z. absurd (cc (z)), inr tt)
   receives (Some x) frame (reply.Refused (no.Denied p)) received = (refl, λ b. inr tt, λ z. absurd (cc (z)), inr tt)

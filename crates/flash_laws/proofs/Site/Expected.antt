@@ -21,7 +21,7 @@ use Rattle.flash_laws.specs.Client.{Client, is_for_script}
 use Rattle.flash_laws.specs.Client.Fits.{IsScript, made_of, response_to}
 use Rattle.flash_laws.specs.SiteContents.Expected.{ExpectedMayCome, Seen, expected, expected_if, expected_of_run}
 use Rattle.flash_laws.specs.SiteContents.Expected.{expected_of_script, expected_of_text, outcomes_by}
-use Rattle.flash_laws.specs.Client.ResponseState.{Known, OfFile, OfScript, of_text, MayAnswer, MayPutOut}
+use Rattle.flash_laws.specs.Client.ResponseState.{Known, OfFile, OfScript, of_text, MayAnswer, MaySendOutput}
 use Rattle.flash_laws.specs.Run.Fits.{Ran, Follows, nothing_yet}
 use Rattle.flash_laws.specs.Answers.Scripts.{script_response}
 
@@ -38,7 +38,7 @@ expected_found scripts site_contents seen w o is found = ap (λ b. expected_if b
 
 -- the expected response is possible before the script runs
 may_run : (seen : Seen) (w : Wanted) (lines : List Line) (head_only : Bool)
-    → MayPutOut head_only w nothing_yet (expected_of_run head_only seen w lines)
+    → MaySendOutput head_only w nothing_yet (expected_of_run head_only seen w lines)
 may_run seen w lines true = refl
 may_run seen w lines false = (output w.query lines (outcomes_by seen lines), tt, refl)
 
@@ -77,7 +77,7 @@ while_received : (scripts : Bool) (site_contents : Files) (seen : Seen) (w : Wan
     → output w.query lines (outcomes_by seen lines) ≡ received ++ more → Follows ended more
     → MayAnswer (serve w) (OfScript text (Ran received ended past)) (expected scripts site_contents seen (serve w))
 while_received scripts site_contents seen w text received past more lines ended is found lines_are gets all follows =
-    subst (λ (b : Bool). MayPutOut b w (Ran received ended past) (expected scripts site_contents seen (serve w)))
+    subst (λ (b : Bool). MaySendOutput b w (Ran received ended past) (expected scripts site_contents seen (serve w)))
     (sym gets) (more, follows, expected_is)
   where
     expected_is : expected scripts site_contents seen (serve w) ≡ script_response w (received ++ more)

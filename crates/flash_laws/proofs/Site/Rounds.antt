@@ -6,7 +6,7 @@ use Rattle.iol_core.specs.NumberedLists.{in_place, taken}
 use Rattle.iol_core.specs.declared.events.Reply.{Reply}
 use Rattle.iol_core.specs.declared.events.Reply.TheVariants as reply
 use Rattle.flash_laws.specs.Client.{Client, is_bare, awaits, has_answered}
-use Rattle.flash_laws.specs.Serves.GoesRound.{IsAfter, IsBefore, TurnsGoRound}
+use Rattle.flash_laws.specs.Serves.RoundRobin.{IsAfter, IsBefore, TurnsAreRoundRobin}
 use Rattle.flash_laws.specs.Site.Places.{has_free, may_go}
 use Rattle.flash_laws.specs.Conn.Policy.{most_conns, is_later, accept_step, pending_call_to}
 use Rattle.flash_laws.specs.Serves.Rounds.{leaves_off, place_after, goes_in, next_place, pending_call_from, in_rounds}
@@ -106,13 +106,13 @@ none-passed workers clients from next fd x is le before there =
     by (Some gd) at before = (found workers clients from).before gd at fd le before
     by None at before = (found workers clients from).none at fd le
 
-skips_nobody : (workers : ℕ) (clients : List (Option Client)) (was next : PendingCall) (last : Reply) (fd : ℕ)
+skips_no_client : (workers : ℕ) (clients : List (Option Client)) (was next : PendingCall) (last : Reply) (fd : ℕ)
     (x : Client) → in_rounds workers clients was last next
     → IsAfter was fd → IsBefore next fd → in_place clients fd ≡ Some x → may_go (has_free workers clients) x ≡ false
-skips_nobody workers clients Nothing next last fd x is after before there =
+skips_no_client workers clients Nothing next last fd x is after before there =
     none-passed workers clients 0 next fd x is (omega arith) before there
-skips_nobody workers clients Accepting next last fd x is after before there = absurd after
-skips_nobody workers clients (At gd) next last fd x is after before there =
+skips_no_client workers clients Accepting next last fd x is after before there = absurd after
+skips_no_client workers clients (At gd) next last fd x is after before there =
     none-passed workers clients (place_after gd (in_place clients gd) last) next fd x is
     (no-later fd gd (in_place clients gd) last after) before there
 
@@ -150,5 +150,11 @@ yields workers clients Accepting r is = inr (refl, λ gd e. cc (e))
 yields workers clients (At fd) last is =
     inl (none-picked clients (next_place workers clients (place_after fd (in_place clients fd) last)) is)
 
-pub turns_go_round : TurnsGoRound
-turns_go_round = record { passes = passes; rises = rises; skips_nobody = skips_nobody; ends = ends; yields = yields }
+pub turns_are_round_robin : TurnsAreRoundRobin
+turns_are_round_robin = record {
+  passes = passes;
+  rises = rises;
+  skips_no_client = skips_no_client;
+  ends = ends;
+  yields = yields;
+}

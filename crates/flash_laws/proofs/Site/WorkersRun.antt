@@ -19,7 +19,7 @@ use Rattle.iol_proc.specs.Turns.{ProcessSlotTurn}
 use Rattle.iol_proc.specs.World.{copying}
 use Rattle.iol_proc.specs.declared.process_slot.ProcessSlot.{ProcessSlot}
 use Rattle.flash_cgi.specs.Beside.{is_call_of, LeavesFiles, OthersReceive}
-use Rattle.flash_cgi.specs.Expected.{Goes, IsExpected, IsWritten, Made, ScriptsPutOut}
+use Rattle.flash_cgi.specs.Expected.{Goes, IsExpected, IsWritten, Made, ScriptsHaveOneOutput}
 use Rattle.flash_cgi.specs.Free.{HasNoJob, WorkersStayFree}
 use Rattle.flash_cgi.specs.Full.{RunningIsFull}
 use Rattle.flash_cgi.specs.Frame.{LeavesAllBut, WorkersAreConfined}
@@ -39,7 +39,7 @@ no_exit (event.Call by call.Exit) d other = other
 no_exit (event.Call by (call.SetPool q)) d other = other
 no_exit e d other = refl
 
-module _ (stay_free : WorkersStayFree) (put_out : ScriptsPutOut) (receive : OthersReceive)
+module _ (stay_free : WorkersStayFree) (have_one_output : ScriptsHaveOneOutput) (receive : OthersReceive)
     (keep_confined : WorkersAreConfined) (show : OutputsAreShown) (fill : RunningIsFull)
     (steps : EachStepLeavesTheRest) (pools : ℕ → Bool) where
   abbrev Free : State → (j : ℕ) → ProcessSlot Worker → Type 0
@@ -107,7 +107,7 @@ module _ (stay_free : WorkersStayFree) (put_out : ScriptsPutOut) (receive : Othe
       subst (λ (o : Option ℕ). pools (unwrap_or o 0) ≡ true)
       (sym (leaves.defaults process_slot.by free.none.live (no_exit e process_slot.by other))) free.default in
       record {
-        expected = put_out.begins n j p fd process_slot query script lines is_free has writing;
+        expected = have_one_output.begins n j p fd process_slot query script lines is_free has writing;
         shown = show.free pools n p process_slot is_free default lies;
       }
 
@@ -119,7 +119,7 @@ module _ (stay_free : WorkersStayFree) (put_out : ScriptsPutOut) (receive : Othe
       record { after = goes.after; later = goes.later; instead = goes.instead; goes = by goes.goes }
     where
       goes : Goes m n j p next made text r
-      goes = put_out.turns m n j p process_slot next yields r made text order placed good h.expected did
+      goes = have_one_output.turns m n j p process_slot next yields r made text order placed good h.expected did
 
       shown : IsShown pools n p next
       shown = show.turns pools m n p process_slot next yields r h.expected.unseen order holds h.expected.runs h.shown
@@ -146,7 +146,8 @@ module _ (stay_free : WorkersStayFree) (put_out : ScriptsPutOut) (receive : Othe
       → LeavesFiles m process_slot.by n → pipe_at n j ≡ pipe_at m j → Expected m j p process_slot made text
       → Gave worker_turns HasWaited pools Free Expected m n j p process_slot made text
   others m n j p process_slot e r made text order placed step other files same h =
-      let gave = put_out.others m n j p process_slot e r made text order placed step other files same h.expected in
+      let gave = have_one_output.others m n j p process_slot e r made text order placed step other files same
+      h.expected in
       record {
         goes = gave.goes;
         rest = gave.rest;

@@ -8,7 +8,7 @@ use Rattle.flash_cgi.specs.Beside.{OthersReceive}
 use Rattle.flash_http.specs.Request.{ClosesWithoutChunks, QueriesFit}
 use Rattle.flash_laws.specs.Workers.WorkerSet.{WorkerSet}
 use Rattle.flash_laws.specs.SiteContents.Expected.{ExpectedMayCome}
-use Rattle.flash_laws.specs.Workers.PutsOut.{TextsArePutOut}
+use Rattle.flash_laws.specs.Workers.DeliversText.{TextsAreDelivered}
 use Rattle.flash_laws.specs.Run.Holdings.{RunsKeepNothing}
 use Rattle.flash_laws.specs.Run.OfferedBytes.{RunsOfferTheResponse}
 use Rattle.flash_laws.specs.Workers.{WorkersRun}
@@ -29,5 +29,5 @@ pub record AllLaws (worker_set : WorkerSet) : Type 0 where
   pub runs : RunsOfferTheResponse
   pub run_keeps : RunsKeepNothing
   pub workers : WorkersRun worker_set.turns worker_set.quiescent worker_set.pools worker_set.Free worker_set.Expected
-  pub texts : TextsArePutOut worker_set.turns worker_set.pools worker_set.Free worker_set.Expected
+  pub texts : TextsAreDelivered worker_set.turns worker_set.pools worker_set.Free worker_set.Expected
   pub apart : JobQueuesAreApart worker_set

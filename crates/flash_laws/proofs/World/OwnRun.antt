@@ -24,7 +24,7 @@ use Rattle.flash_laws.specs.Conn.Fits.{Has, Names}
 use Rattle.flash_laws.specs.Site.Places.{has_worker, is_run_by}
 use Rattle.flash_laws.specs.Run.Fits.{Progress, HasRun}
 use Rattle.flash_laws.specs.Run.Holdings.{KeepsToItself}
-use Rattle.flash_laws.specs.Run.OfferedBytes.{Learns}
+use Rattle.flash_laws.specs.Run.OfferedBytes.{Updates}
 use Rattle.flash_laws.specs.Run as running
 use Rattle.flash_laws.specs.Run.{is_over}
 use Rattle.flash_laws.specs.Site.ClientConsistency.{AreAtJobQueues}
@@ -157,7 +157,7 @@ module _ (site_contents : SiteContents) (worker_set : WorkerSet) (laws : AllLaws
           → worker_set.Free m (worker_set.job_queue worker) process_slot)
       hires is = hired (waits-run conn run script y has is)
 
-      replied : (after : Progress) × Learns m y r received f.so_far after
+      replied : (after : Progress) × Updates m y r received f.so_far after
           × HasRun (job_of f.wanted f.script.text) n f.wanted after (running.after_reply worker f.wanted y r received)
       replied =
           (laws.runs job).replied m n fd c worker w y r received f.so_far order f.open_on

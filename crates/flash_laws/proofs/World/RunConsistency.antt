@@ -25,7 +25,7 @@ use Rattle.flash_laws.specs.Conn.Fits.{Names}
 use Rattle.flash_laws.specs.Conn.OfferedBytes.{newly_taken}
 use Rattle.flash_laws.specs.Run.Fits.{Progress, Ran, Broken, NotRun, Follows, IsLeft, HasNone, HasLeft, HasRun}
 use Rattle.flash_laws.specs.Run.Fits.{MayAnswer}
-use Rattle.flash_laws.specs.Run.OfferedBytes.{Learns, taken_by, past_of, IsNextOf, breaks_off}
+use Rattle.flash_laws.specs.Run.OfferedBytes.{Updates, taken_by, past_of, IsNextOf, breaks_off}
 use Rattle.flash_laws.specs.Run.{next_call, after_reply, is_over}
 use Rattle.flash_laws.specs.Answers.Scripts.{script_response}
 use Rattle.flash_laws.specs.SiteContents.{SiteContents, MayBeExpected, Responds}
@@ -345,7 +345,7 @@ module _ (site_contents : SiteContents) (worker_set : WorkerSet) (laws : AllLaws
       → IsOrderly m → descriptor m server fd ≡ Some (on.Connection c)
       → IsProper (serve w) → is_over y ≡ false → HasRun job m w o y
       → StepsTo m (event.Call server (next_call job fd w y)) r n → Names n r received
-      → Learns m y r received o after → HasRun job n w after (after_reply worker w y r received)
+      → Updates m y r received o after → HasRun job n w after (after_reply worker w y r received)
       → (breaks_off y ≡ false → breaks_off (after_reply worker w y r received) ≡ true
       → is_gone (conn_at m c).peer ≡ true)
       → (breaks_off y ≡ false → breaks_off (after_reply worker w y r received) ≡ false → MayAnswer w o expected
@@ -353,7 +353,7 @@ module _ (site_contents : SiteContents) (worker_set : WorkerSet) (laws : AllLaws
       → ConsistencyRun site_contents expected (conn_at m c) took sent buffered w o y
       → ConsistencyAfter site_contents expected m n c took sent buffered w after (after_reply worker w y r received)
   consistency_step m n fd c worker took sent buffered w job y r received o after expected may_be order open_on proper
-      ongoing has step names learns stands cut may consistency = by consistency
+      ongoing has step names updates stands cut may consistency = by consistency
     where
       z : Running
       z = after_reply worker w y r received
@@ -392,7 +392,7 @@ module _ (site_contents : SiteContents) (worker_set : WorkerSet) (laws : AllLaws
           })
           cases false is =
               let count = (laws.runs job).takes m n fd c worker w y r received o after order open_on ongoing has step
-              learns goes.whole is in
+              updates goes.whole is in
               proceeds site_contents m n c took sent buffered w expected may_be after z proper unread over
               (answered_on m n c w o (taken_by y) new site_contents took sent buffered (serve w ∷ []) expected
               (past_of after + taken_by z) did goes.may count goes.answers)

@@ -15,7 +15,7 @@ use Rattle.flash_laws.specs.Conn.Fits.{IsReadable}
 use Rattle.flash_laws.specs.Run.Fits.{Progress, HasStep, HasRun, HasLeft, HasFrame, IsHeld, HasOutput, HasPart}
 use Rattle.flash_laws.specs.Run.Holdings.{has_end}
 use Rattle.flash_laws.specs.Run.{has_frame, step_agg, ends_of, is_reading, step_fd, uses_agg, is_again, after_sending}
-use Rattle.flash_laws.specs.Run.{holding, filled, hearing, after_output, both, finishing, after_step, after_reply}
+use Rattle.flash_laws.specs.Run.{holding, filled, on_output, after_output, both, finishing, after_step, after_reply}
 use Rattle.flash_laws.specs.Run.{sends_part, in_phase}
 use Rattle.flash_laws.specs.Site.{server}
 use Rattle.flash_laws.specs.declared.phase.Phase.{Phase}
@@ -89,24 +89,24 @@ module _ (worker : ℕ) (w : Wanted) (run : Run) (a : ℕ) where
       by true u = elim (one-of (n == a) (has_frame frame a) u) [ inl is ↦ inr (made is) | inr is ↦ inl (old is) ]
       by false u = set frame old u
 
-  hearing-new : (c d : Bool) (held : Following) (frame : Option ℕ) (n len : ℕ)
-      → step_agg (hearing c d held frame n len) a ≡ true
+  on_output-new : (c d : Bool) (held : Following) (frame : Option ℕ) (n len : ℕ)
+      → step_agg (on_output c d held frame n len) a ≡ true
       → New (reply.Agg n) a (has_followed held a || has_frame frame a)
-  hearing-new true d held frame n len u =
+  on_output-new true d held frame n len u =
       elim (one-of (n == a) (has_frame frame a) u) [
         | inl is ↦ inr is
         | inr is ↦
             inl (later_of (has_followed held a) (has_frame frame a) is)
       ]
-  hearing-new false false held frame n len u =
+  on_output-new false false held frame n len u =
       elim (one-of ((n == a) || false) (has_frame frame a) u) [
         | inl is ↦ inr (bare (n == a) is)
         | inr is ↦
             inl (later_of (has_followed held a) (has_frame frame a) is)
       ]
-  hearing-new false true None frame n len u =
+  on_output-new false true None frame n len u =
       holding-new n len frame (reply.Agg n) (has_frame frame a) (λ is. is) (λ is. is) u
-  hearing-new false true (Some x) frame n len u = elim (one-of (x.0 == a) ((n == a) || has_frame frame a) u) [
+  on_output-new false true (Some x) frame n len u = elim (one-of (x.0 == a) ((n == a) || has_frame frame a) u) [
     | inl is ↦ inl (former_of (x.0 == a) (has_frame frame a) is)
     | inr is ↦ elim (one-of (n == a) (has_frame frame a) is) [
       | inl made ↦ inr made
@@ -120,7 +120,7 @@ module _ (worker : ℕ) (w : Wanted) (run : Run) (a : ℕ) where
   receives-new held frame (reply.Agg n) [] u =
       elim (one-of (n == a) (has_followed held a || has_frame frame a) u) [ inl is ↦ inr is | inr is ↦ inl is ]
   receives-new held frame (reply.Agg n) (b ∷ received) u =
-      hearing-new run.broken w.chunked held frame n (count_of (b ∷ received)) u
+      on_output-new run.broken w.chunked held frame n (count_of (b ∷ received)) u
   receives-new None frame (reply.Refused (no.Denied p)) received u = inl u
   receives-new (Some x) frame (reply.Refused (no.Denied p)) received u = inl u
   receives-new held frame r received u = inl u
@@ -230,12 +230,12 @@ module _ (w : Wanted) (run : Run) (g : ℕ) where
       by true = refl
       by false = set frame
 
-  hearing-fd : (c d : Bool) (held : Following) (frame : Option ℕ) (n len h : ℕ)
-      → step_fd (hearing c d held frame n len) h ≡ false
-  hearing-fd true d held frame n len h = refl
-  hearing-fd false false held frame n len h = refl
-  hearing-fd false true None frame n len h = holding-fd n len frame h
-  hearing-fd false true (Some x) frame n len h = refl
+  on_output-fd : (c d : Bool) (held : Following) (frame : Option ℕ) (n len h : ℕ)
+      → step_fd (on_output c d held frame n len) h ≡ false
+  on_output-fd true d held frame n len h = refl
+  on_output-fd false false held frame n len h = refl
+  on_output-fd false true None frame n len h = holding-fd n len frame h
+  on_output-fd false true (Some x) frame n len h = refl
 
   sending-has : (d : Phase) (frame : Option ℕ) (r : Reply) → Has (SendingPart d frame) (after_sending run d frame r)
   sending-has (phase.DroppingSent b taken None) frame reply.Done u = u
@@ -246,8 +246,8 @@ module _ (w : Wanted) (run : Run) (g : ℕ) where
       → Has (ReadingOutput held frame) (after_output w run held frame r received)
   receives-has held frame (reply.Agg n) [] u = u
   receives-has held frame (reply.Agg n) (b ∷ received) u = on-reading (ReadingOutput held frame) refl
-      (only-from (hearing run.broken w.chunked held frame n (count_of (b ∷ received)))
-      (hearing-fd run.broken w.chunked held frame n (count_of (b ∷ received))) u)
+      (only-from (on_output run.broken w.chunked held frame n (count_of (b ∷ received)))
+      (on_output-fd run.broken w.chunked held frame n (count_of (b ∷ received))) u)
   receives-has None frame (reply.Refused (no.Denied p)) received u = u
   receives-has (Some x) frame (reply.Refused (no.Denied p)) received u = u
   receives-has held frame r received u = u

@@ -56,23 +56,23 @@ is_ending x = by x.run
     by (Some y) = is_over y
 
 -- The result of the calls for a file or for the text of a script, after the reply to one.
-abbrev pub ConnLearns : (script : Bool) → Phase → Reply → (received : List ℕ) → (before after : Known) → Type 0
-ConnLearns true (phase.Reading f) (reply.Agg n) received before after = after ≡ of_text received
-ConnLearns script d r received (OfFile o) after = (p : Outcome) × file.Learns d r received o p × (after ≡ OfFile p)
-ConnLearns script d r received (OfScript text o) after = after ≡ OfScript text o
+abbrev pub ConnUpdates : (script : Bool) → Phase → Reply → (received : List ℕ) → (before after : Known) → Type 0
+ConnUpdates true (phase.Reading f) (reply.Agg n) received before after = after ≡ of_text received
+ConnUpdates script d r received (OfFile o) after = (p : Outcome) × file.Updates d r received o p × (after ≡ OfFile p)
+ConnUpdates script d r received (OfScript text o) after = after ≡ OfScript text o
 
 -- the result of the calls of a run
-abbrev pub RunLearns : State → Running → Reply → (received : List ℕ) → (before after : Known) → Type 0
-RunLearns m y r received (OfScript text o) after = (p : Progress) × run.Learns m y r received o p
+abbrev pub RunUpdates : State → Running → Reply → (received : List ℕ) → (before after : Known) → Type 0
+RunUpdates m y r received (OfScript text o) after = (p : Progress) × run.Updates m y r received o p
     × (after ≡ OfScript text p)
-RunLearns m y r received (OfFile o) after = ⊥
+RunUpdates m y r received (OfFile o) after = ⊥
 
-abbrev pub Learns : (scripts : Bool) → State → Client → Reply → (received : List ℕ) → (before after : Known) → Type 0
-Learns scripts m x r received before after = by x.run
+abbrev pub Updates : (scripts : Bool) → State → Client → Reply → (received : List ℕ) → (before after : Known) → Type 0
+Updates scripts m x r received before after = by x.run
   where
     by : Option Running → Type 0
-    by None = ConnLearns (is_for_script scripts x.conn.request) x.conn.phase r received before after
-    by (Some y) = RunLearns m y r received before after
+    by None = ConnUpdates (is_for_script scripts x.conn.request) x.conn.phase r received before after
+    by (Some y) = RunUpdates m y r received before after
 
 -- the number of bytes taken of those that are being sent
 abbrev pub taken_by : Client → ℕ
@@ -163,7 +163,7 @@ pub record ClientOffersTheResponse (scripts : Bool) : Type 0 where
       → (IsTrue (awaits x) → HasJobPipe m worker)
       → IsFalse (is_ending x)
       → HasKnown scripts m x before → StepsTo m (event.Call server (next_call scripts fd x)) r n → Names n r received
-      → (after : Known) × Learns scripts m x r received before after
+      → (after : Known) × Updates scripts m x r received before after
       × HasKnown scripts n (after_reply scripts worker x r received) after
   -- the same for any other event that consumes and moves no object that the client uses
   pub stays : (m n : State) (x : Client) (e : Event) (r : Reply) (known : Known) → StepsTo m e r n
@@ -178,7 +178,7 @@ pub record ClientOffersTheResponse (scripts : Bool) : Type 0 where
   pub takes : (m n : State) (fd c worker : ℕ) (x : Client) (r : Reply) (received : List ℕ) (before after : Known)
       → IsOrderly m
       → descriptor m server fd ≡ Some (on.Connection c) → IsFalse (is_ending x) → HasKnown scripts m x before
-      → StepsTo m (event.Call server (next_call scripts fd x)) r n → Learns scripts m x r received before after
+      → StepsTo m (event.Call server (next_call scripts fd x)) r n → Updates scripts m x r received before after
       → IsFalse (drops_rest x) → IsFalse (drops_rest (after_reply scripts worker x r received))
       → IsTrue (is_working (after_reply scripts worker x r received))
       → taken_before after + taken_by (after_reply scripts worker x r received)

@@ -31,15 +31,15 @@ of_text text = if can_run text then OfScript text nothing_yet else OfFile (Faile
 -- ---- possible responses
 
 -- for HEAD only the head, and no script runs
-abbrev pub MayPutOut : (head_only : Bool) → Wanted → Progress → List ℕ → Type 0
-MayPutOut true w o r = r ≡ script_text w
-MayPutOut false w o r = run.MayAnswer w o r
+abbrev pub MaySendOutput : (head_only : Bool) → Wanted → Progress → List ℕ → Type 0
+MaySendOutput true w o r = r ≡ script_text w
+MaySendOutput false w o r = run.MayAnswer w o r
 
 -- The possible responses with the known results: for a file there is one; for a script it is the response to its
 -- output, for every further output.
 abbrev pub MayAnswer : Answer → Known → List ℕ → Type 0
 MayAnswer q (OfFile o) r = r ≡ response q o
-MayAnswer (serve w) (OfScript text o) r = MayPutOut w.head_only w o r
+MayAnswer (serve w) (OfScript text o) r = MaySendOutput w.head_only w o r
 MayAnswer (refuse status head_only close) (OfScript text o) r = ⊥
 
 -- the bytes of the response that were taken in aggregates before the current one

@@ -11,7 +11,7 @@ use Rattle.iol_core.specs.declared.events.Reply.TheVariants as reply
 use Rattle.flash_http.specs.Request.{Answer, serve, refuse, Wanted}
 use Rattle.flash_laws.specs.Answers.{Found, response}
 use Rattle.flash_laws.specs.Site.{server}
-use Rattle.flash_laws.specs.Conn.{Following, has_followed, content_agg, piece_end, whole, text_of, put_out}
+use Rattle.flash_laws.specs.Conn.{Following, has_followed, content_agg, piece_end, whole, text_of, script_payload}
 use Rattle.flash_laws.specs.declared.phase.FileResult.{FileResult}
 use Rattle.flash_laws.specs.declared.phase.FileResult.TheVariants.{File, Length, Fails, Text}
 use Rattle.flash_laws.specs.declared.phase.Payload.{Payload}
@@ -98,7 +98,7 @@ abbrev pub HasFileResult : State → Answer → (expected : List ℕ) → FileRe
 HasFileResult m q expected (File a len) = HasWhole m q expected a len
 HasFileResult m q expected (Length len) = expected ≡ text_of q (Bare len)
 HasFileResult m q expected (Fails status) = expected ≡ text_of q (Error status)
-HasFileResult m q expected (Text a runs) = IsReadable m a × (expected ≡ text_of q (put_out runs))
+HasFileResult m q expected (Text a runs) = IsReadable m a × (expected ≡ text_of q (script_payload runs))
 
 abbrev pub HasContent : State → Answer → (expected : List ℕ) → Payload → Type 0
 HasContent m q expected (Body a size len) = HasBody m expected (text_of q (Body a size len)) a size

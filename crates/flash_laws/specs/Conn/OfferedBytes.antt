@@ -45,13 +45,13 @@ FirstCall (refuse status head_only close) k = k ≡ call.AggMake (error_text sta
 
 -- The outcome of the calls, after the reply to one: the file is refused, its bytes are read, or its length is returned,
 -- as that of some bytes; other calls leave it unchanged.
-abbrev pub Learns : Phase → Reply → (received : List ℕ) → (before after : Outcome) → Type 0
-Learns Opening (reply.Refused x) received before after = after ≡ Failed (status_of x)
-Learns (Reading f) (reply.Agg n) received before after = after ≡ Found received
-Learns (Reading f) (reply.Count n) received before after = (bytes : List ℕ) × (n ≡ length bytes)
+abbrev pub Updates : Phase → Reply → (received : List ℕ) → (before after : Outcome) → Type 0
+Updates Opening (reply.Refused x) received before after = after ≡ Failed (status_of x)
+Updates (Reading f) (reply.Agg n) received before after = after ≡ Found received
+Updates (Reading f) (reply.Count n) received before after = (bytes : List ℕ) × (n ≡ length bytes)
     × (after ≡ Found bytes)
-Learns (Reading f) (reply.Refused x) received before after = after ≡ Failed (status_of x)
-Learns d r received before after = after ≡ before
+Updates (Reading f) (reply.Refused x) received before after = after ≡ Failed (status_of x)
+Updates d r received before after = after ≡ before
 
 -- the number of bytes of the response that are taken
 abbrev pub taken_of : Phase → ℕ
@@ -98,7 +98,7 @@ pub record OffersTheResponse : Type 0 where
       → IsTrue (is_live m server) → descriptor m server fd ≡ Some (on.Connection c)
       → IsFalse (is_closing x.phase)
       → HasAnswer m x before → StepsTo m (event.Call server (next_call fd x)) r n → Names n r received
-      → (after : Outcome) × Learns x.phase r received before after × HasAnswer n (after_reply x r received) after
+      → (after : Outcome) × Updates x.phase r received before after × HasAnswer n (after_reply x r received) after
   -- the same for any other event that consumes and moves no object that the connection uses
   pub stays : (m n : State) (x : Conn) (e : Event) (r : Reply) (o : Outcome) → StepsTo m e r n
       → ((a : ℕ) → IsTrue (uses_agg x.phase a) → IsFalse (gives_up e server a))

@@ -53,24 +53,24 @@ takes_on Broken part = Broken
 takes_on (NotRun status past) part = NotRun status (past ++ part)
 
 -- The results of the calls that send a part: all its bytes are taken after it is sent, or it is aborted.
-abbrev pub PartLearns : State → Phase → Reply → (before after : Progress) → Type 0
-PartLearns m (phase.DroppingSent a taken None) reply.Done before after = (part : List ℕ)
+abbrev pub PartUpdates : State → Phase → Reply → (before after : Progress) → Type 0
+PartUpdates m (phase.DroppingSent a taken None) reply.Done before after = (part : List ℕ)
     × (readable_at m server a ≡ Some part) × (after ≡ takes_on before part)
-PartLearns m (phase.Aborting a None) reply.Done before after = after ≡ Broken
-PartLearns m d r before after = after ≡ before
+PartUpdates m (phase.Aborting a None) reply.Done before after = after ≡ Broken
+PartUpdates m d r before after = after ≡ before
 
 -- The results of the calls, after the reply to one.
-abbrev pub StepLearns : State → Step → Reply → (received : List ℕ) → (before after : Progress) → Type 0
-StepLearns m (SendingPart d frame) r received before after = PartLearns m d r before after
-StepLearns m (ReadingOutput held frame) (reply.Agg n) received before after = after ≡ receives_on before received
-StepLearns m (ReadingOutput held frame) (reply.Refused (no.Denied p)) received before after = after ≡ Broken
-StepLearns m Failing reply.Done received before after = after ≡ NotRun 503 []
-StepLearns m s r received before after = after ≡ before
+abbrev pub StepUpdates : State → Step → Reply → (received : List ℕ) → (before after : Progress) → Type 0
+StepUpdates m (SendingPart d frame) r received before after = PartUpdates m d r before after
+StepUpdates m (ReadingOutput held frame) (reply.Agg n) received before after = after ≡ receives_on before received
+StepUpdates m (ReadingOutput held frame) (reply.Refused (no.Denied p)) received before after = after ≡ Broken
+StepUpdates m Failing reply.Done received before after = after ≡ NotRun 503 []
+StepUpdates m s r received before after = after ≡ before
 
-abbrev pub Learns : State → Running → Reply → (received : List ℕ) → (before after : Progress) → Type 0
-Learns m (InProgress run step) r received before after = StepLearns m step r received before after
-Learns m (Finishing d) r received before after = PartLearns m d r before after
-Learns m x r received before after = after ≡ before
+abbrev pub Updates : State → Running → Reply → (received : List ℕ) → (before after : Progress) → Type 0
+Updates m (InProgress run step) r received before after = StepUpdates m step r received before after
+Updates m (Finishing d) r received before after = PartUpdates m d r before after
+Updates m x r received before after = after ≡ before
 
 -- the number of bytes taken of the part that is being sent
 abbrev pub taken_by : Running → ℕ
@@ -184,7 +184,7 @@ pub record RunOffersTheResponse (job : ℕ → List ℕ) : Type 0 where
       → IsOrderly m → descriptor m server fd ≡ Some (on.Connection c) → (x ≡ AwaitingWorker → HasJobPipe m worker)
       → IsFalse (is_over x) → HasRun job m w before x
       → StepsTo m (event.Call server (next_call job fd w x)) r n → Names n r received
-      → (after : Progress) × Learns m x r received before after
+      → (after : Progress) × Updates m x r received before after
       × HasRun job n w after (after_reply worker w x r received)
   -- the same for any other event that consumes and moves no object that the run uses
   pub stays : (m n : State) (w : Wanted) (x : Running) (e : Event) (r : Reply) (o : Progress) → StepsTo m e r n
@@ -202,7 +202,7 @@ pub record RunOffersTheResponse (job : ℕ → List ℕ) : Type 0 where
   pub takes : (m n : State) (fd c worker : ℕ) (w : Wanted) (x : Running) (r : Reply) (received : List ℕ)
       (before after : Progress)
       → IsOrderly m → descriptor m server fd ≡ Some (on.Connection c) → IsFalse (is_over x) → HasRun job m w before x
-      → StepsTo m (event.Call server (next_call job fd w x)) r n → Learns m x r received before after
+      → StepsTo m (event.Call server (next_call job fd w x)) r n → Updates m x r received before after
       → IsFalse (breaks_off x) → IsFalse (breaks_off (after_reply worker w x r received))
       → past_of after + taken_by (after_reply worker w x r received) ≡ past_of before + taken_by x + newly_taken fd
       (next_call job fd w x) r

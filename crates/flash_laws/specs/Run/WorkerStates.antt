@@ -6,7 +6,7 @@ use Rattle.iol_laws.specs.Sources.{lie_in}
 use Rattle.iol_proc.specs.declared.process_slot.ProcessSlot.{ProcessSlot}
 use Rattle.flash_cgi.specs.Expected.{Made, text_of}
 use Rattle.flash_laws.specs.Workers.WorkerSet.{WorkerSet}
-use Rattle.flash_laws.specs.Workers.PutsOut as puts
+use Rattle.flash_laws.specs.Workers.DeliversText as puts
 use Rattle.flash_laws.specs.Run.Fits.{Progress, Ran, Broken, NotRun}
 use Rattle.flash_laws.specs.Run.OfferedBytes.{is_stopping}
 use Rattle.flash_laws.specs.Site.{server}
@@ -56,24 +56,24 @@ module _ (worker_set : WorkerSet) where
     pub writes : descriptor m process_slot.by fd ≡ Some (on.WriteEnd ready.has.pipe)
 
   -- it has the job, and its further output is the rest
-  pub record IsPuttingOut (m : State) (process_slot : ProcessSlot worker_set.Worker) (run : Run) (made : Made)
+  pub record IsDelivering (m : State) (process_slot : ProcessSlot worker_set.Worker) (run : Run) (made : Made)
       (o : Progress) : Type 0 where
     pub has : HasPipeOf m run
     pub more : List ℕ
-    pub puts_out : puts.PutsOut worker_set.turns worker_set.pools worker_set.Free worker_set.Expected m
+    pub delivers_text : puts.DeliversText worker_set.turns worker_set.pools worker_set.Free worker_set.Expected m
         (worker_set.job_queue run.worker) has.pipe process_slot made more
     pub to_come : IsToCome o (text_of made) more
 
   -- it is free again, and all was read
-  pub record HasPutOut (m : State) (process_slot : ProcessSlot worker_set.Worker) (run : Run) (made : Made)
+  pub record HasDelivered (m : State) (process_slot : ProcessSlot worker_set.Worker) (run : Run) (made : Made)
       (o : Progress) : Type 0 where
     pub free : worker_set.Free m (worker_set.job_queue run.worker) process_slot
     pub whole : IsReceivedWhole o (text_of made)
 
   abbrev pub OutputFrom : (stops : Bool) → State → ProcessSlot worker_set.Worker → Run → (made : Made) → Progress
       → Type 0
-  OutputFrom true m process_slot run made o = HasPutOut m process_slot run made o
-  OutputFrom false m process_slot run made o = IsPuttingOut m process_slot run made o
+  OutputFrom true m process_slot run made o = HasDelivered m process_slot run made o
+  OutputFrom false m process_slot run made o = IsDelivering m process_slot run made o
 
   -- The state of the worker in this process slot at a step of a run. The steps after a failed handover of the pipe or
   -- the job are impossible.

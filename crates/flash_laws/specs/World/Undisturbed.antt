@@ -11,13 +11,13 @@ use Rattle.iol_proc.specs.declared.process_slot.ProcessSlot.{ProcessSlot}
 use Rattle.flash_laws.specs.Site.{KeepsSite}
 
 -- the domain has no process
-abbrev pub IsNobody : {P : Type 0} → List (ProcessSlot P) → (d : ℕ) → Type 0
-IsNobody {P} process_slots d = (i : ℕ) (s : ProcessSlot P) → slice_get process_slots i ≡ Some s → s.by ≢ d
+abbrev pub HasNoProcess : {P : Type 0} → List (ProcessSlot P) → (d : ℕ) → Type 0
+HasNoProcess {P} process_slots d = (i : ℕ) (s : ProcessSlot P) → slice_get process_slots i ≡ Some s → s.by ≢ d
 
 -- an external call is by a domain without process, makes and writes no file, and admits no domain to the net or to a
 -- file's pool
 abbrev pub IsSitePreserving : {P : Type 0} → WorldState State P → Choice → (after : WorldState State P) → Type 0
-IsSitePreserving w (choice.Outside (event.Call d k)) after = IsNobody w.process_slots d
+IsSitePreserving w (choice.Outside (event.Call d k)) after = HasNoProcess w.process_slots d
     × KeepsSite w.machine after.machine
 IsSitePreserving w x after = ⊤
 

@@ -4,7 +4,7 @@ use Rattle.std.proofs.lemmas.Bool.Decides.{nat_tests}
 use Rattle.iol_core.specs.declared.events.Reply.TheVariants as reply
 use Rattle.flash_http.specs.Request.{Wanted}
 use Rattle.flash_laws.specs.Conn.{Following, count_of}
-use Rattle.flash_laws.specs.Run.{hearing, after_output}
+use Rattle.flash_laws.specs.Run.{on_output, after_output}
 use Rattle.flash_laws.specs.declared.script_run.Run.{Run}
 use Rattle.flash_laws.specs.declared.script_run.Step.TheVariants.{DroppingEnd}
 use Rattle.flash_laws.specs.declared.script_run.Running.TheVariants.{InProgress}
@@ -22,4 +22,4 @@ receives_read w run held frame n (b ∷ received) =
     (ap
     (λ (t : Bool).
     InProgress run
-    (cond t (DroppingEnd n held frame) (hearing run.broken w.chunked held frame n (count_of (b ∷ received))))) e)
+    (cond t (DroppingEnd n held frame) (on_output run.broken w.chunked held frame n (count_of (b ∷ received))))) e)

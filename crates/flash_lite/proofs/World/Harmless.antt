@@ -16,7 +16,7 @@ use Rattle.iol_proc.specs.World.{WorldState, copying, WorldStep, WorldRun}
 use Rattle.iol_proc.specs.declared.choice.Choice.{Choice}
 use Rattle.iol_proc.specs.declared.choice.Choice.TheVariants as choice
 use Rattle.iol_proc.specs.declared.process_slot.ProcessSlot.{ProcessSlot}
-use Rattle.flash_laws.specs.World.Undisturbed.{IsNobody, IsSitePreserving, AreSitePreserving}
+use Rattle.flash_laws.specs.World.Undisturbed.{HasNoProcess, IsSitePreserving, AreSitePreserving}
 use Rattle.flash_laws.specs.Workers.WorkerSet.{WorkerSet}
 use Rattle.flash_laws.specs.Site.Past.{Past}
 use Rattle.flash_laws.specs.Serves.Rounds.{in_rounds}
@@ -97,7 +97,7 @@ module _ (site_contents : SiteContents) (worker_set : WorkerSet) where
           (files-stay w.machine d k harmless.1) (λ p. none-admitted d k p harmless.1),
     )
       where
-        nobody : IsNobody w.process_slots d
+        nobody : HasNoProcess w.process_slots d
         nobody i s sits same =
             let low : s.by < server + worker_set.count + 1 = sits-below xs rs w consistent i s sits in
             let high : server + worker_set.count < d = harmless.0 in

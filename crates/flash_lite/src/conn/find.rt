@@ -119,8 +119,8 @@ fn sends_of(request: &Request, agg: AggId, len: u32) -> Phase
 }
 
 // The body of the response to a request of a script: its output, if it can run.
-fn put_out(runs: bool) -> Payload
-    ensures { result ≡ spec.put_out runs }
+fn script_payload(runs: bool) -> Payload
+    ensures { result ≡ spec.script_payload runs }
 {
     if runs {
         Payload::Script
@@ -159,7 +159,7 @@ fn resolved(asked: &Asked, file_result: FileResult) -> Phase
         },
         FileResult::Text { agg, runs } => Phase::DroppingWhole {
             agg,
-            content: put_out(runs),
+            content: script_payload(runs),
         },
     }
 }

@@ -46,7 +46,7 @@ fn holding(held: AggId, size: u32, frame: Option<AggId>) -> Step
 // Some output of a body in chunks was read, which is still sent.
 fn gathering(held: Following, frame: Option<AggId>, agg: AggId, len: u32) -> Step
     requires { IsPiece held × (0 < len) }
-    ensures hearing { result ≡ spec.hearing false true held frame agg len }
+    ensures on_output { result ≡ spec.on_output false true held frame agg len }
     ensures small { IsSmallStep result }
 {
     match held {

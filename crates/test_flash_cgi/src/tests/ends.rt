@@ -1,5 +1,5 @@
 //! Scripts whose output has no reader, texts that are no jobs, and the end of the job pipe.
-use super::rows::{OUTPUT, close, give, is_put_out, job_of};
+use super::rows::{OUTPUT, close, give, is_output, job_of};
 use super::worker_world::{WorkerWorld, in_worker_world};
 use iol_core::events::{Call, Reply};
 use iol_core::lists::Bytes;
@@ -23,7 +23,7 @@ fn proceeds(world: &mut WorkerWorld, unread: Bytes, next: Bytes) -> bool {
         && close(world, 0)
         && world.quiesce()
         && give(world, next)
-        && is_put_out(world, b"x\n")
+        && is_output(world, b"x\n")
         && has_free(world, OUTPUT)
 }
 
@@ -46,7 +46,7 @@ fn passes_over(world: &mut WorkerWorld, none: Bytes, next: Bytes) -> bool {
         && world.quiesce()
         && close(world, 0)
         && give(world, next)
-        && is_put_out(world, b"x\n")
+        && is_output(world, b"x\n")
 }
 
 fn drops_no_job(alloc: Global, script: &str) -> Result<bool, Refusal> {
@@ -69,7 +69,7 @@ fn what_begins_as_a_job_is_dropped(rt: HostRuntime) -> Result<(), Fail> {
 fn stops(world: &mut WorkerWorld, job: Bytes) -> bool {
     give(world, job)
         && close(world, 1)
-        && is_put_out(world, b"x\n")
+        && is_output(world, b"x\n")
         && world.quiesce()
         && has_free(world, OUTPUT)
 }

@@ -1,5 +1,5 @@
 //! The output of scripts.
-use super::rows::{OUTPUT, Row, give, held, is_put_out};
+use super::rows::{OUTPUT, Row, give, held, is_output};
 use super::worker_world::{in_worker_world, worker_world};
 use flash_cgi::jobs::job_text;
 use iol_core::numbers::Fd;
@@ -96,7 +96,7 @@ fn many_texts(alloc: Global) -> Result<bool, Refusal> {
     let wanted = repeated(alloc, b"abc\n", 1500)?;
     let job = job_text(alloc, Fd::new(OUTPUT), b"", &script)?;
     in_worker_world(alloc, |world| {
-        give(world, job) && is_put_out(world, &wanted) && !world.is_resource_failure()
+        give(world, job) && is_output(world, &wanted) && !world.is_resource_failure()
     })
 }
 
@@ -115,7 +115,7 @@ fn small_pieces(alloc: Global, lines: &[u8], output: &[u8]) -> Result<bool, Refu
     let wanted = repeated(alloc, output, 100)?;
     let job = job_text(alloc, Fd::new(OUTPUT), b"q", &script)?;
     lend(worker_world(alloc, &FILES), |world| {
-        give(world, job) && is_put_out(world, &wanted) && !world.is_resource_failure()
+        give(world, job) && is_output(world, &wanted) && !world.is_resource_failure()
     })
 }
 

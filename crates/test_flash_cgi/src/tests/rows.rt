@@ -52,7 +52,7 @@ pub fn close(world: &mut WorkerWorld, fd: u32) -> bool {
 }
 
 /// Reads the whole output, with turns before each read, and compares it.
-pub fn is_put_out(world: &mut WorkerWorld, wanted: &[u8]) -> bool {
+pub fn is_output(world: &mut WorkerWorld, wanted: &[u8]) -> bool {
     let mut left = wanted;
     for _ in 0..1000 {
         if !world.quiesce() {
@@ -80,7 +80,7 @@ pub fn is_put_out(world: &mut WorkerWorld, wanted: &[u8]) -> bool {
 fn count_held(world: &mut WorkerWorld, jobs: Vec<Bytes>, rows: &[Row<'_>]) -> u32 {
     let mut held = 0u32;
     for (row, job) in rows.iter().zip(jobs) {
-        if !give(world, job) || !is_put_out(world, row.2) {
+        if !give(world, job) || !is_output(world, row.2) {
             return held;
         }
         held = held.saturating_add(1);

@@ -36,7 +36,7 @@ use Rattle.flash_laws.specs.Conn.{next_piece, whole}
 use Rattle.flash_laws.specs.Workers.WorkerSet.{WorkerSet}
 use Rattle.flash_laws.specs.Conn.Fits.{Has, quits, is_closing, HoldsMore, Names}
 use Rattle.flash_laws.specs.Client.ResponseState as known
-use Rattle.flash_laws.specs.Client.ResponseState.{OfFile, OfScript, MayPutOut, is_read, is_opening}
+use Rattle.flash_laws.specs.Client.ResponseState.{OfFile, OfScript, MaySendOutput, is_read, is_opening}
 use Rattle.flash_laws.specs.Run.Fits.{nothing_yet}
 use Rattle.flash_laws.specs.SiteContents.{SiteContents, expected_to, MayBeExpected, IsAmong}
 use Rattle.flash_laws.specs.SiteContents.Expected.{outcomes_by}
@@ -200,7 +200,7 @@ module _ (site_contents : SiteContents) (worker_set : WorkerSet) (laws : AllLaws
   runs process_slots (serve w) a r received f step =
       by w.head_only r refl (laws.the.own.drops m n server a r order step) step
     where
-      may : MayPutOut w.head_only w nothing_yet (expected_to site_contents (serve w))
+      may : MaySendOutput w.head_only w nothing_yet (expected_to site_contents (serve w))
       may =
           subst
           (λ (t : Bool). known.MayAnswer (serve w)
@@ -209,8 +209,8 @@ module _ (site_contents : SiteContents) (worker_set : WorkerSet) (laws : AllLaws
           (laws.expected.read site_contents.scripts site_contents.finds site_contents.shows w f.finds.text f.finds.asks
           f.finds.found)
 
-      may_be : (b : Bool) → w.head_only ≡ b → MayPutOut b w nothing_yet (expected_to site_contents (serve w))
-      may_be b is = subst (λ (t : Bool). MayPutOut t w nothing_yet (expected_to site_contents (serve w))) is may
+      may_be : (b : Bool) → w.head_only ≡ b → MaySendOutput b w nothing_yet (expected_to site_contents (serve w))
+      may_be b is = subst (λ (t : Bool). MaySendOutput t w nothing_yet (expected_to site_contents (serve w))) is may
 
       consistencies : (k : Connection) (took sent : List ℕ) → w.head_only ≡ false
           → ConsistencyAlone site_contents f.expected k took sent

@@ -125,7 +125,7 @@ module _ (site_contents : SiteContents) (worker_set : WorkerSet) (laws : AllLaws
     receives held frame n job_queue step =
         let has = job_queue.at_step.has in
         let empty = laws.the.reasons.pipe_is_empty m m server run.from has.pipe n has.reads step in
-        elim job_queue.at_step.puts_out [
+        elim job_queue.at_step.delivers_text [
           | inl expected ↦ not-full (pipe_at m has.pipe).queue empty.0
               (laws.workers.full m (worker_set.job_queue run.worker) has.pipe job_queue.process_slot made
               job_queue.at_step.more order fixed.access expected

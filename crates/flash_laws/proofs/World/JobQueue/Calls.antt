@@ -22,7 +22,7 @@ use Rattle.flash_laws.specs.Run.{worker_domain}
 use Rattle.flash_laws.specs.Site.ClientConsistency.{AreAtJobQueues}
 use Rattle.flash_laws.specs.SiteContents.{SiteContents}
 use Rattle.flash_laws.specs.Site.{server}
-use Rattle.flash_laws.specs.Run.WorkerStates.{IsReadyFor, IsGiven, IsPuttingOut, HasPutOut, IsToCome}
+use Rattle.flash_laws.specs.Run.WorkerStates.{IsReadyFor, IsGiven, IsDelivering, HasDelivered, IsToCome}
 use Rattle.flash_laws.specs.declared.script_run.Run.{Run}
 use Rattle.flash_laws.specs.declared.script_run.Running.{Running}
 use Rattle.flash_laws.proofs.Lists.{not-equal}
@@ -161,8 +161,8 @@ module _ (site_contents : SiteContents) (worker_set : WorkerSet) (laws : AllLaws
     }
 
     pub putting_on : Still m n → (made : Made) (o after : Progress)
-        → (was : IsPuttingOut worker_set m process_slot run made o) → IsToCome after (text_of made) was.more
-        → IsPuttingOut worker_set n process_slot run made after
+        → (was : IsDelivering worker_set m process_slot run made o) → IsToCome after (text_of made) was.more
+        → IsDelivering worker_set n process_slot run made after
     putting_on stays made o after was to_come = record {
       has = record {
         pipe = was.has.pipe;
@@ -170,16 +170,17 @@ module _ (site_contents : SiteContents) (worker_set : WorkerSet) (laws : AllLaws
         apart = was.has.apart;
       };
       more = was.more;
-      puts_out = laws.texts.left m n (worker_set.job_queue run.worker) was.has.pipe process_slot (event.Call server k) r
+      delivers_text = laws.texts.left m n (worker_set.job_queue run.worker) was.has.pipe process_slot
+          (event.Call server k) r
           made was.more h.order h.fixed.placed h.step (other run.worker process_slot sits)
           (own_files run.worker process_slot sits) (stays.pipes (worker_set.job_queue run.worker))
-          (stays.pipes was.has.pipe) was.puts_out;
+          (stays.pipes was.has.pipe) was.delivers_text;
       to_come = to_come;
     }
 
     pub put_on : pipe_at n (worker_set.job_queue run.worker) ≡ pipe_at m (worker_set.job_queue run.worker)
         → (made : Made) (o after : Progress) → after ≡ o
-        → HasPutOut worker_set m process_slot run made o → HasPutOut worker_set n process_slot run made after
+        → HasDelivered worker_set m process_slot run made o → HasDelivered worker_set n process_slot run made after
     put_on same made o after stays was =
-        subst (λ (p : Progress). HasPutOut worker_set n process_slot run made p) (sym stays)
+        subst (λ (p : Progress). HasDelivered worker_set n process_slot run made p) (sym stays)
         (record { free = free_on run.worker process_slot sits same was.free; whole = was.whole })

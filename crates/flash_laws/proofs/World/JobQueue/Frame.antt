@@ -34,7 +34,7 @@ use Rattle.flash_laws.specs.Run.Fits.{Progress, HasStep}
 use Rattle.flash_laws.specs.Run.OfferedBytes.{is_stopping}
 use Rattle.flash_laws.specs.Run.{worker_domain, is_reading, step_agg}
 use Rattle.flash_laws.specs.Site.{server, KeepsSite}
-use Rattle.flash_laws.specs.Run.WorkerStates.{HasPipeOf, IsReadyFor, IsGiven, IsPuttingOut, HasPutOut, IsAtStep}
+use Rattle.flash_laws.specs.Run.WorkerStates.{HasPipeOf, IsReadyFor, IsGiven, IsDelivering, HasDelivered, IsAtStep}
 use Rattle.flash_laws.specs.declared.script_run.Run.{Run}
 use Rattle.flash_laws.specs.declared.script_run.Step.{Step}
 use Rattle.flash_laws.specs.declared.script_run.Step.TheVariants.{GivingPipe, MakingJob, WritingJob, DroppingEnd}
@@ -168,19 +168,20 @@ module _ (worker_set : WorkerSet) (laws : AllLaws worker_set) (m n : State) (e :
     }
 
     putting-on : (made : Made) (o : Progress) → touches_fd m e server run.from ≡ false → SamePipe run
-        → IsPuttingOut worker_set m process_slot run made o
-        → IsPuttingOut worker_set n process_slot run made o
+        → IsDelivering worker_set m process_slot run made o
+        → IsDelivering worker_set n process_slot run made o
     putting-on made o undisturbed same h = record {
       has = pipe-on undisturbed h.has;
       more = h.more;
-      puts_out = laws.texts.left m n (worker_set.job_queue run.worker) h.has.pipe process_slot e r made h.more order
+      delivers_text = laws.texts.left m n (worker_set.job_queue run.worker) h.has.pipe process_slot e r made h.more
+          order
           placed step other (files-left m n process_slot.by site) job_queue (same h.has.pipe h.has.reads h.has.apart)
-          h.puts_out;
+          h.delivers_text;
       to_come = h.to_come;
     }
 
-    put-on : (made : Made) (o : Progress) → HasPutOut worker_set m process_slot run made o
-        → HasPutOut worker_set n process_slot run made o
+    put-on : (made : Made) (o : Progress) → HasDelivered worker_set m process_slot run made o
+        → HasDelivered worker_set n process_slot run made o
     put-on made o h = record { free = free-on h.free; whole = h.whole }
 
     pub at-step-on : (job : ℕ → List ℕ) (w : Wanted) (made : Made) (o : Progress) (s : Step)

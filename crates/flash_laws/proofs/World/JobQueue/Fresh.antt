@@ -44,7 +44,7 @@ use Rattle.flash_laws.specs.Site.ClientConsistency.{AreAtJobQueues}
 use Rattle.flash_laws.specs.SiteContents.{SiteContents}
 use Rattle.flash_laws.specs.SiteContents.Expected.{outcomes_by}
 use Rattle.flash_laws.specs.Site.{server}
-use Rattle.flash_laws.specs.Run.WorkerStates.{IsReadyFor, IsGiven, IsPuttingOut}
+use Rattle.flash_laws.specs.Run.WorkerStates.{IsReadyFor, IsGiven, IsDelivering}
 use Rattle.flash_laws.specs.declared.script_run.Run.{Run}
 use Rattle.flash_laws.specs.declared.script_run.Step.{Step}
 use Rattle.flash_laws.specs.declared.script_run.Step.TheVariants.{GivingPipe, MakingJob, WritingJob, DroppingJob}
@@ -318,7 +318,7 @@ module _ (site_contents : SiteContents) (worker_set : WorkerSet) (laws : AllLaws
     begun : (k : ℕ) (h : OwnCall site_contents worker_set m n (call.IolWrite (job_pipe run.worker) j) (reply.Count k)
         process_slots)
         → ((p : ℕ) → p ≢ job_queue → pipe_at n p ≡ pipe_at m p) → descriptor n server run.from ≡ Some (on.ReadEnd pipe)
-        → IsPuttingOut worker_set n process_slot run (made_of w s.lines shown) nothing_yet
+        → IsDelivering worker_set n process_slot run (made_of w s.lines shown) nothing_yet
     begun k h stays reads =
         let at = h.job_queues.by run.worker process_slot sits in
         let puts = laws.the.own.write_pipe m n server (job_pipe run.worker) job_queue j (job_of w s.text f)
@@ -363,7 +363,7 @@ module _ (site_contents : SiteContents) (worker_set : WorkerSet) (laws : AllLaws
         record {
           has = record { pipe = pipe; reads = reads; apart = given.ready.has.apart };
           more = output w.query s.lines shown;
-          puts_out =
+          delivers_text =
               inl
               (subst (λ (os : List Outcome). worker_set.Expected n job_queue pipe process_slot (made_of w s.lines os)
               (output w.query s.lines os)) (outcomes ∙ sym fresh)
@@ -412,7 +412,7 @@ module _ (site_contents : SiteContents) (worker_set : WorkerSet) (laws : AllLaws
             (DroppingJob j)
             process_slot sits same
             (cut_same m c (InProgress run (WritingJob j f)) (InProgress run (DroppingJob j)) refl)
-            (subst (λ (p : Progress). IsPuttingOut worker_set n process_slot run (made_of w s.lines shown) p)
+            (subst (λ (p : Progress). IsDelivering worker_set n process_slot run (made_of w s.lines shown) p)
             (sym (same ∙ begins)) (begun k h stays reads))
         by (reply.Refused y) h buffered = either (is_again y) buffered
           where

@@ -11,11 +11,11 @@ use Rattle.flash_cgi.specs.Expected.{Made}
 use Rattle.flash_laws.specs.Workers.WorkerSet.{WorkerSet}
 use Rattle.flash_laws.specs.Site.Past.{Past}
 use Rattle.flash_laws.specs.Site.Places.{is_run_by, is_free}
-use Rattle.flash_laws.specs.Workers.PutsOut.{PutsOut}
+use Rattle.flash_laws.specs.Workers.DeliversText.{DeliversText}
 use Rattle.flash_laws.specs.Run.Fits.{Progress}
 use Rattle.flash_laws.specs.Site.ClientConsistency.{AllFit}
 use Rattle.flash_laws.specs.SiteContents.{SiteContents}
-use Rattle.flash_laws.specs.Run.WorkerStates.{IsPuttingOut, IsAtStep}
+use Rattle.flash_laws.specs.Run.WorkerStates.{IsDelivering, IsAtStep}
 use Rattle.flash_laws.specs.declared.script_run.Run.{Run}
 use Rattle.flash_laws.specs.declared.script_run.Step.{Step}
 use Rattle.flash_laws.specs.declared.script_run.Step.TheVariants.{MakingJob, WritingJob, DroppingJob, MakingHead}
@@ -36,11 +36,11 @@ module _ (worker_set : WorkerSet) (laws : AllLaws worker_set) where
   free-reads m j process_slot free = (laws.workers.none m j process_slot free).jobs
 
   puts-reads : (m : State) (process_slot : ProcessSlot worker_set.Worker) (run : Run) (made : Made) (o : Progress)
-      → IsPuttingOut worker_set m process_slot run made o
+      → IsDelivering worker_set m process_slot run made o
       → descriptor m process_slot.by 0 ≡ Some (on.ReadEnd (worker_set.job_queue run.worker))
-  puts-reads m process_slot run made o h = by h.puts_out
+  puts-reads m process_slot run made o h = by h.delivers_text
     where
-      by : PutsOut worker_set.turns worker_set.pools worker_set.Free worker_set.Expected m
+      by : DeliversText worker_set.turns worker_set.pools worker_set.Free worker_set.Expected m
           (worker_set.job_queue run.worker) h.has.pipe process_slot made h.more
           → descriptor m process_slot.by 0 ≡ Some (on.ReadEnd (worker_set.job_queue run.worker))
       by (inl expected) = laws.workers.reads m (worker_set.job_queue run.worker) h.has.pipe process_slot made h.more

@@ -24,14 +24,14 @@ use Rattle.flash_laws.specs.Conn.{Following, count_of}
 use Rattle.flash_laws.specs.Workers.WorkerSet.{WorkerSet}
 use Rattle.flash_laws.specs.Conn.Fits.{Names}
 use Rattle.flash_laws.specs.Conn.OfferedBytes.{is_dropping}
-use Rattle.flash_laws.specs.Workers.PutsOut.{PutsOut}
+use Rattle.flash_laws.specs.Workers.DeliversText.{DeliversText}
 use Rattle.flash_laws.specs.Run.Fits.{Progress, Ran, Broken, NotRun, Follows, MayAnswer, IsSending}
-use Rattle.flash_laws.specs.Run.OfferedBytes.{receives_on, takes_on, PartLearns, StepLearns, IsCutOff}
+use Rattle.flash_laws.specs.Run.OfferedBytes.{receives_on, takes_on, PartUpdates, StepUpdates, IsCutOff}
 use Rattle.flash_laws.specs.Run.{in_phase, held_size, broken, both, after_part, after_sending, after_output, after_step}
-use Rattle.flash_laws.specs.Run.{filled, holding, hearing, sends_part}
+use Rattle.flash_laws.specs.Run.{filled, holding, on_output, sends_part}
 use Rattle.flash_laws.specs.SiteContents.{SiteContents}
 use Rattle.flash_laws.specs.Site.{server}
-use Rattle.flash_laws.specs.Run.WorkerStates.{IsPuttingOut, IsToCome, IsReceivedWhole, IsAtStep}
+use Rattle.flash_laws.specs.Run.WorkerStates.{IsDelivering, IsToCome, IsReceivedWhole, IsAtStep}
 use Rattle.flash_laws.specs.declared.phase.Payload.TheVariants.{Error}
 use Rattle.flash_laws.specs.declared.phase.Phase.{Phase}
 use Rattle.flash_laws.specs.declared.phase.Phase.TheVariants as phase
@@ -56,11 +56,11 @@ taken_may w (Ran received ended past) part expected may = may
 taken_may w x part expected may = may
 
 pub part_may : (m : State) (w : Wanted) (d : Phase) (r : Reply) (o after : Progress) (expected : List ℕ)
-    → PartLearns m d r o after → is_dropping d ≡ false → MayAnswer w o expected → MayAnswer w after expected
-part_may m w (phase.DroppingSent a taken None) reply.Done o after expected learns whole may =
-    subst (λ (p : Progress). MayAnswer w p expected) (sym learns.2) (taken_may w o learns.0 expected may)
-part_may m w (phase.Aborting a None) reply.Done o after expected learns whole may = absurd (cc (whole))
-part_may m w d r o after expected learns whole may = subst (λ (p : Progress). MayAnswer w p expected) (sym learns) may
+    → PartUpdates m d r o after → is_dropping d ≡ false → MayAnswer w o expected → MayAnswer w after expected
+part_may m w (phase.DroppingSent a taken None) reply.Done o after expected updates whole may =
+    subst (λ (p : Progress). MayAnswer w p expected) (sym updates.2) (taken_may w o updates.0 expected may)
+part_may m w (phase.Aborting a None) reply.Done o after expected updates whole may = absurd (cc (whole))
+part_may m w d r o after expected updates whole may = subst (λ (p : Progress). MayAnswer w p expected) (sym updates) may
 
 taken_to_come : (o : Progress) (part output more : List ℕ) → IsToCome o output more
     → IsToCome (takes_on o part) output more
@@ -68,12 +68,13 @@ taken_to_come (Ran received ended past) part output more come = come
 taken_to_come x part output more come = come
 
 pub part_to_come : (m : State) (d : Phase) (r : Reply) (o after : Progress) (output more : List ℕ)
-    → PartLearns m d r o after → IsToCome o output more → IsToCome after output more
-part_to_come m (phase.DroppingSent a taken None) reply.Done o after output more learns come =
-    subst (λ (p : Progress). IsToCome p output more) (sym learns.2) (taken_to_come o learns.0 output more come)
-part_to_come m (phase.Aborting a None) reply.Done o after output more learns come =
-    subst (λ (p : Progress). IsToCome p output more) (sym learns) tt
-part_to_come m d r o after output more learns come = subst (λ (p : Progress). IsToCome p output more) (sym learns) come
+    → PartUpdates m d r o after → IsToCome o output more → IsToCome after output more
+part_to_come m (phase.DroppingSent a taken None) reply.Done o after output more updates come =
+    subst (λ (p : Progress). IsToCome p output more) (sym updates.2) (taken_to_come o updates.0 output more come)
+part_to_come m (phase.Aborting a None) reply.Done o after output more updates come =
+    subst (λ (p : Progress). IsToCome p output more) (sym updates) tt
+part_to_come m d r o after output more updates come = subst (λ (p : Progress). IsToCome p output more) (sym updates)
+    come
 
 -- the calls that send it touch no pipe
 pub part_touches_none : (m : State) (fd : ℕ) (w : Wanted) (expected : List ℕ) (d : Phase) → IsSending m expected d
@@ -104,24 +105,24 @@ ReceivesNothing step = ⊥
 received_more : (o after : Progress) (output more rest bytes : List ℕ) (b : ℕ) → after ≡ receives_on o (b ∷ bytes)
     → IsToCome o output more → more ≡ (b ∷ bytes) ++ rest
     → IsToCome after output rest
-received_more (Ran received ended past) after output more rest bytes b learns come splits =
-    subst (λ (p : Progress). IsToCome p output rest) (sym learns)
+received_more (Ran received ended past) after output more rest bytes b updates come splits =
+    subst (λ (p : Progress). IsToCome p output rest) (sym updates)
     (come.0, come.1 ∙ (ap (λ (l : List ℕ). received ++ l) splits ∙ sym (append_assoc received (b ∷ bytes) rest)))
-received_more Broken after output more rest bytes b learns come splits =
-    subst (λ (p : Progress). IsToCome p output rest) (sym learns) tt
-received_more (NotRun status past) after output more rest bytes b learns come splits = absurd come
+received_more Broken after output more rest bytes b updates come splits =
+    subst (λ (p : Progress). IsToCome p output rest) (sym updates) tt
+received_more (NotRun status past) after output more rest bytes b updates come splits = absurd come
 
 received_whole : (o after : Progress) (output more : List ℕ) → after ≡ receives_on o [] → IsToCome o output more
     → more ≡ [] → IsReceivedWhole after output
-received_whole (Ran received ended past) after output more learns come none =
-    subst (λ (p : Progress). IsReceivedWhole p output) (sym learns) (
+received_whole (Ran received ended past) after output more updates come none =
+    subst (λ (p : Progress). IsReceivedWhole p output) (sym updates) (
       refl,
       come.1
           ∙ (ap (λ (l : List ℕ). received ++ l) none ∙ append-nil received),
     )
-received_whole Broken after output more learns come none =
-    subst (λ (p : Progress). IsReceivedWhole p output) (sym learns) tt
-received_whole (NotRun status past) after output more learns come none = absurd come
+received_whole Broken after output more updates come none =
+    subst (λ (p : Progress). IsReceivedWhole p output) (sym updates) tt
+received_whole (NotRun status past) after output more updates come none = absurd come
 
 -- ---- so the response to the output is possible
 
@@ -133,22 +134,22 @@ run_may w made received past more ended all follows = (more, follows, ap (λ (l 
 more_may : (w : Wanted) (made : Made) (o after : Progress) (more rest bytes : List ℕ) (b : ℕ)
     → after ≡ receives_on o (b ∷ bytes) → IsToCome o (text_of made) more → more ≡ (b ∷ bytes) ++ rest
     → MayAnswer w o (response_to w made) → MayAnswer w after (response_to w made)
-more_may w made (Ran received ended past) after more rest bytes b learns come splits may =
-    subst (λ (p : Progress). MayAnswer w p (response_to w made)) (sym learns)
+more_may w made (Ran received ended past) after more rest bytes b updates come splits may =
+    subst (λ (p : Progress). MayAnswer w p (response_to w made)) (sym updates)
     (run_may w made (received ++ (b ∷ bytes)) past rest ended (come.1
     ∙ (ap (λ (l : List ℕ). received ++ l) splits ∙ sym (append_assoc received (b ∷ bytes) rest)))
     (subst (λ (e : Bool). Follows e rest) (sym come.0) tt))
-more_may w made Broken after more rest bytes b learns come splits may = absurd may
-more_may w made (NotRun status past) after more rest bytes b learns come splits may = absurd come
+more_may w made Broken after more rest bytes b updates come splits may = absurd may
+more_may w made (NotRun status past) after more rest bytes b updates come splits may = absurd come
 
 end_may : (w : Wanted) (made : Made) (o after : Progress) (more : List ℕ) → after ≡ receives_on o []
     → IsToCome o (text_of made) more → more ≡ []
     → MayAnswer w o (response_to w made) → MayAnswer w after (response_to w made)
-end_may w made (Ran received ended past) after more learns come none may =
-    subst (λ (p : Progress). MayAnswer w p (response_to w made)) (sym learns)
+end_may w made (Ran received ended past) after more updates come none may =
+    subst (λ (p : Progress). MayAnswer w p (response_to w made)) (sym updates)
     (run_may w made received past [] true (come.1 ∙ ap (λ (l : List ℕ). received ++ l) none) refl)
-end_may w made Broken after more learns come none may = absurd may
-end_may w made (NotRun status past) after more learns come none may = absurd come
+end_may w made Broken after more updates come none may = absurd may
+end_may w made (NotRun status past) after more updates come none may = absurd come
 
 -- ---- the server may read all output of a worker
 
@@ -165,11 +166,11 @@ not_hidden pools m q t wide lies hidden =
 module _ (site_contents : SiteContents) (worker_set : WorkerSet) (laws : AllLaws worker_set) (m n : State) (c : ℕ)
     (process_slots : List (ProcessSlot worker_set.Worker)) (w : Wanted) (o after : Progress) where
   pub not_cut : (made : Made) (run : Run) (step : Step) (process_slot : ProcessSlot worker_set.Worker)
-      → IsPuttingOut worker_set m process_slot run made o → MayReadAll m server worker_set.pools
+      → IsDelivering worker_set m process_slot run made o → MayReadAll m server worker_set.pools
       → IsCutOff m c (InProgress run step) → is_gone (conn_at m c).peer ≡ true
   not_cut made run step process_slot was wide cut = by cut
     where
-      lies : PutsOut worker_set.turns worker_set.pools worker_set.Free worker_set.Expected m
+      lies : DeliversText worker_set.turns worker_set.pools worker_set.Free worker_set.Expected m
           (worker_set.job_queue run.worker) was.has.pipe process_slot made was.more
           → lie_in worker_set.pools (pipe_at m was.has.pipe).queue ≡ true
       lies (inl expected) = laws.workers.shown m (worker_set.job_queue run.worker) was.has.pipe process_slot made
@@ -183,7 +184,7 @@ module _ (site_contents : SiteContents) (worker_set : WorkerSet) (laws : AllLaws
       by (inl gone) = gone
       by (inr hides) = absurd (not_hidden worker_set.pools m hides.1 (pipe_at m hides.0).queue wide
           (subst (λ p. lie_in worker_set.pools (pipe_at m p).queue ≡ true)
-          (one was.has.pipe hides.0 (descriptor m server run.from) was.has.reads hides.2) (lies was.puts_out))
+          (one was.has.pipe hides.0 (descriptor m server run.from) was.has.reads hides.2) (lies was.delivers_text))
           hides.3)
 
   module _ (made : Made) where
@@ -192,7 +193,7 @@ module _ (site_contents : SiteContents) (worker_set : WorkerSet) (laws : AllLaws
 
     module _ (run : Run) (process_slot : ProcessSlot worker_set.Worker)
         (sits : slice_get process_slots run.worker ≡ Some process_slot)
-        (now : IsPuttingOut worker_set n process_slot run made after) where
+        (now : IsDelivering worker_set n process_slot run made after) where
       -- ---- held output
 
       held_on : (step : Step) (a size : ℕ) (frame : Option ℕ)
@@ -218,19 +219,19 @@ module _ (site_contents : SiteContents) (worker_set : WorkerSet) (laws : AllLaws
               sits now
               (may (InProgress run (FillingFrame a f))) cut
 
-      hearing_on : (step : Step) (b chunked : Bool) (held : Following) (frame : Option ℕ) (a len : ℕ)
+      on_output_on : (step : Step) (b chunked : Bool) (held : Following) (frame : Option ℕ) (a len : ℕ)
           → ((z : Running) → MayOn (response_to w made) w (InProgress run step) z o after)
-          → CutBy m c (InProgress run step) (InProgress run (hearing b chunked held frame a len))
-          → After (InProgress run step) (InProgress run (hearing b chunked held frame a len))
-      hearing_on step true chunked held frame a len may cut =
+          → CutBy m c (InProgress run step) (InProgress run (on_output b chunked held frame a len))
+          → After (InProgress run step) (InProgress run (on_output b chunked held frame a len))
+      on_output_on step true chunked held frame a len may cut =
           proceeds worker_set m n c process_slots w made o after run run step (DroppingOutput a frame) process_slot refl
           sits
           now (may (InProgress run (DroppingOutput a frame))) cut
-      hearing_on step false false held frame a len may cut =
+      on_output_on step false false held frame a len may cut =
           proceeds worker_set m n c process_slots w made o after run run step (SendingPart (sends_part a len) frame)
           process_slot refl sits now (may (InProgress run (SendingPart (sends_part a len) frame))) cut
-      hearing_on step false true None frame a len may cut = held_on step a len frame may cut
-      hearing_on step false true (Some y) frame a len may cut =
+      on_output_on step false true None frame a len may cut = held_on step a len frame may cut
+      on_output_on step false true (Some y) frame a len may cut =
           proceeds worker_set m n c process_slots w made o after run run step (JoiningOutput y.0 y.1 a len frame)
           process_slot
           refl sits now (may (InProgress run (JoiningOutput y.0 y.1 a len frame))) cut
@@ -277,36 +278,37 @@ module _ (site_contents : SiteContents) (worker_set : WorkerSet) (laws : AllLaws
         steps_without_output step r received is cut = absurd is
 
       -- a part is sent
-      pub sending : (d : Phase) (frame : Option ℕ) (r : Reply) → PartLearns m d r o after
+      pub sending : (d : Phase) (frame : Option ℕ) (r : Reply) → PartUpdates m d r o after
           → CutBy m c (InProgress run (SendingPart d frame)) (after_sending run d frame r)
           → After (InProgress run (SendingPart d frame)) (after_sending run d frame r)
-      sending (phase.DroppingSent a taken None) frame reply.Done learns cut =
+      sending (phase.DroppingSent a taken None) frame reply.Done updates cut =
           proceeds worker_set m n c process_slots w made o after run run
           (SendingPart (phase.DroppingSent a taken None) frame)
           (ReadingOutput None frame) process_slot refl sits now
-          (λ was gone may. part_may m w (phase.DroppingSent a taken None) reply.Done o after (response_to w made) learns
+          (λ was gone may. part_may m w (phase.DroppingSent a taken None) reply.Done o after (response_to w made)
+          updates
           was
           may) cut
-      sending (phase.Aborting a None) frame reply.Done learns cut =
+      sending (phase.Aborting a None) frame reply.Done updates cut =
           proceeds worker_set m n c process_slots w made o after run (broken run)
           (SendingPart (phase.Aborting a None) frame)
           (ReadingOutput None frame) process_slot refl sits (record {
             has = record { pipe = now.has.pipe; reads = now.has.reads; apart = now.has.apart };
             more = now.more;
-            puts_out = now.puts_out;
+            delivers_text = now.delivers_text;
             to_come = now.to_come;
           })
           (λ was gone may. absurd (cc (was))) cut
-      sending d frame r learns cut =
+      sending d frame r updates cut =
           proceeds worker_set m n c process_slots w made o after run run (SendingPart d frame)
           (SendingPart (after_part d r) frame) process_slot refl sits now
-          (λ was gone may. part_may m w d r o after (response_to w made) learns was may) cut
+          (λ was gone may. part_may m w d r o after (response_to w made) updates was may) cut
 
   -- ---- output is read, or its end
 
   module _ (made : Made) (run : Run) (held : Following) (frame : Option ℕ)
       (process_slot : ProcessSlot worker_set.Worker) (sits : slice_get process_slots run.worker ≡ Some process_slot)
-      (was : IsPuttingOut worker_set m process_slot run made o) (few : held_size held < CHUNK_BYTES) where
+      (was : IsDelivering worker_set m process_slot run made o) (few : held_size held < CHUNK_BYTES) where
     abbrev Received : Running → Type 0
     Received z = JobQueueAfter worker_set m n c process_slots w made (InProgress run (ReadingOutput held frame)) z o
         after
@@ -322,17 +324,17 @@ module _ (site_contents : SiteContents) (worker_set : WorkerSet) (laws : AllLaws
         → pipe_at n (worker_set.job_queue run.worker) ≡ pipe_at m (worker_set.job_queue run.worker)
         → CutBy m c (InProgress run (ReadingOutput held frame)) (InProgress run (DroppingEnd a held frame))
         → Received (InProgress run (DroppingEnd a held frame))
-    ended a h is_readable learns job_queue cut =
+    ended a h is_readable updates job_queue cut =
         let all = laws.texts.ends m n (worker_set.job_queue run.worker) was.has.pipe server run.from count a
         process_slot made was.more h.order h.fixed.placed (omega (arith, few)) h.step
         (other site_contents worker_set laws m n reads (reply.Agg a) process_slots h run.worker process_slot sits)
         was.has.reads (own_files site_contents worker_set laws m n reads (reply.Agg a) process_slots h run.worker
-        process_slot sits) job_queue is_readable was.puts_out in
+        process_slot sits) job_queue is_readable was.delivers_text in
         proceeds worker_set m n c process_slots w made o after run run (ReadingOutput held frame)
         (DroppingEnd a held frame)
         process_slot refl sits
-        (record { free = all.1; whole = received_whole o after (text_of made) was.more learns was.to_come all.0 })
-        (λ on gone may. end_may w made o after was.more learns was.to_come all.0 may) cut
+        (record { free = all.1; whole = received_whole o after (text_of made) was.more updates was.to_come all.0 })
+        (λ on gone may. end_may w made o after was.more updates was.to_come all.0 may) cut
 
     more : (a b : ℕ) (bytes : List ℕ) → OwnCall site_contents worker_set m n reads (reply.Agg a) process_slots
         → readable_at n server a ≡ Some (b ∷ bytes) → after ≡ receives_on o (b ∷ bytes)
@@ -341,44 +343,44 @@ module _ (site_contents : SiteContents) (worker_set : WorkerSet) (laws : AllLaws
         → CutBy m c (InProgress run (ReadingOutput held frame))
         (after_output w run held frame (reply.Agg a) (b ∷ bytes))
         → Received (after_output w run held frame (reply.Agg a) (b ∷ bytes))
-    more a b bytes h is_readable learns job_queue from cut =
+    more a b bytes h is_readable updates job_queue from cut =
         let did = laws.texts.reads m n (worker_set.job_queue run.worker) was.has.pipe server run.from count a
         process_slot made was.more (b ∷ bytes) h.order h.fixed.placed h.step
         (other site_contents worker_set laws m n reads (reply.Agg a) process_slots h run.worker process_slot sits)
         was.has.reads (own_files site_contents worker_set laws m n reads (reply.Agg a) process_slots h run.worker
-        process_slot sits) job_queue is_readable was.puts_out in
-        let now : IsPuttingOut worker_set n process_slot run made after = record {
+        process_slot sits) job_queue is_readable was.delivers_text in
+        let now : IsDelivering worker_set n process_slot run made after = record {
           has = record { pipe = was.has.pipe; reads = from; apart = was.has.apart };
           more = did.rest;
-          puts_out = did.puts_out;
-          to_come = received_more o after (text_of made) was.more did.rest bytes b learns was.to_come did.splits;
+          delivers_text = did.delivers_text;
+          to_come = received_more o after (text_of made) was.more did.rest bytes b updates was.to_come did.splits;
         } in
-        hearing_on made run process_slot sits now (ReadingOutput held frame) run.broken w.chunked held frame a
+        on_output_on made run process_slot sits now (ReadingOutput held frame) run.broken w.chunked held frame a
         (count_of (b ∷ bytes))
-        (λ z on gone may. more_may w made o after was.more did.rest bytes b learns was.to_come did.splits may) cut
+        (λ z on gone may. more_may w made o after was.more did.rest bytes b updates was.to_come did.splits may) cut
 
     again : n ≡ m → after ≡ o → Received (InProgress run (ReadingOutput held frame))
     again is same =
         same_on worker_set m n c process_slots w made o after run (ReadingOutput held frame) (ReadingOutput held frame)
         process_slot sits same
         (cut_same m c (InProgress run (ReadingOutput held frame)) (InProgress run (ReadingOutput held frame)) refl)
-        (subst (λ (u : State). IsPuttingOut worker_set u process_slot run made after) (sym is)
-        (subst (λ (p : Progress). IsPuttingOut worker_set m process_slot run made p) (sym same) was))
+        (subst (λ (u : State). IsDelivering worker_set u process_slot run made after) (sym is)
+        (subst (λ (p : Progress). IsDelivering worker_set m process_slot run made p) (sym same) was))
 
     pub receives : (r : Reply) (received : List ℕ) → OwnCall site_contents worker_set m n reads r process_slots
-        → Names n r received → StepLearns m (ReadingOutput held frame) r received o after
+        → Names n r received → StepUpdates m (ReadingOutput held frame) r received o after
         → pipe_at n (worker_set.job_queue run.worker) ≡ pipe_at m (worker_set.job_queue run.worker)
         → descriptor n server run.from ≡ Some (on.ReadEnd was.has.pipe)
         → CutBy m c (InProgress run (ReadingOutput held frame)) (after_output w run held frame r received)
         → Received (after_output w run held frame r received)
-    receives (reply.Agg a) [] h names learns job_queue from cut = ended a h names learns job_queue cut
-    receives (reply.Agg a) (b ∷ bytes) h names learns job_queue from cut =
-        more a b bytes h names learns job_queue from cut
-    receives (reply.Refused (no.Denied q)) received h names learns job_queue from cut =
+    receives (reply.Agg a) [] h names updates job_queue from cut = ended a h names updates job_queue cut
+    receives (reply.Agg a) (b ∷ bytes) h names updates job_queue from cut =
+        more a b bytes h names updates job_queue from cut
+    receives (reply.Refused (no.Denied q)) received h names updates job_queue from cut =
         absurd (laws.texts.undenied m n (worker_set.job_queue run.worker) was.has.pipe server run.from count q
-        process_slot made was.more h.fixed.wide was.has.reads was.puts_out h.step)
-    receives (reply.Refused y) received h names learns job_queue from cut =
+        process_slot made was.more h.fixed.wide was.has.reads was.delivers_text h.step)
+    receives (reply.Refused y) received h names updates job_queue from cut =
         again (laws.the.own.read_pipe m n server run.from was.has.pipe count (reply.Refused y) h.order was.has.reads
-        h.step) learns
-    receives r received h names learns job_queue from cut =
+        h.step) updates
+    receives r received h names updates job_queue from cut =
         absurd (laws.the.own.read_pipe m n server run.from was.has.pipe count r h.order was.has.reads h.step)

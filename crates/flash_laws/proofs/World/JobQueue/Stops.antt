@@ -18,11 +18,11 @@ use Rattle.flash_laws.specs.Conn as conn
 use Rattle.flash_laws.specs.Conn.{Following, count_of}
 use Rattle.flash_laws.specs.Workers.WorkerSet.{WorkerSet}
 use Rattle.flash_laws.specs.Run.Fits.{Progress}
-use Rattle.flash_laws.specs.Run.OfferedBytes.{PartLearns, breaks_off}
+use Rattle.flash_laws.specs.Run.OfferedBytes.{PartUpdates, breaks_off}
 use Rattle.flash_laws.specs.Run.{in_phase, after_step, finishing, ending, sends_part}
 use Rattle.flash_laws.specs.SiteContents.{SiteContents}
 use Rattle.flash_laws.specs.Site.{server}
-use Rattle.flash_laws.specs.Run.WorkerStates.{HasWorkerAt, HasPutOut, IsAtStep}
+use Rattle.flash_laws.specs.Run.WorkerStates.{HasWorkerAt, HasDelivered, IsAtStep}
 use Rattle.flash_laws.specs.declared.phase.Phase.{Phase}
 use Rattle.flash_laws.specs.declared.phase.Phase.TheVariants as phase
 use Rattle.flash_laws.specs.declared.script_run.Run.{Run}
@@ -96,7 +96,7 @@ module _ (site_contents : SiteContents) (worker_set : WorkerSet) (laws : AllLaws
 
     module _ (run : Run) (process_slot : ProcessSlot worker_set.Worker)
         (sits : slice_get process_slots run.worker ≡ Some process_slot)
-        (now : HasPutOut worker_set n process_slot run made after) (same : after ≡ o) where
+        (now : HasDelivered worker_set n process_slot run made after) (same : after ≡ o) where
       to : (step later : Step) → CutBy m c (InProgress run step) (InProgress run later)
           → IsAtStep worker_set n process_slot run made after later → After (InProgress run step) (InProgress run later)
       to step later cut at_step = same_on worker_set m n c process_slots w made o after run step later process_slot sits
@@ -181,12 +181,12 @@ module _ (site_contents : SiteContents) (worker_set : WorkerSet) (laws : AllLaws
       last_steps step r received is = absurd is
 
     -- a run that no longer has a worker
-    pub leaving : (d : Phase) (r : Reply) (received : List ℕ) → PartLearns m d r o after
+    pub leaving : (d : Phase) (r : Reply) (received : List ℕ) → PartUpdates m d r o after
         → CutBy m c (Finishing d) (Finishing (conn.after_reply (in_phase w d) r received).phase)
         → After (Finishing d) (Finishing (conn.after_reply (in_phase w d) r received).phase)
-    leaving d r received learns cut = record {
+    leaving d r received updates cut = record {
       job_queue = tt;
       freed = λ k next at was gone. absurd (cc (was));
-      may = λ was gone may. part_may m w d r o after (response_to w made) learns was may;
+      may = λ was gone may. part_may m w d r o after (response_to w made) updates was may;
       cut = cut;
     }

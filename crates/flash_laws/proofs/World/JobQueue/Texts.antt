@@ -24,7 +24,8 @@ use Rattle.flash_cgi.specs.Expected.{Made}
 use Rattle.flash_cgi.specs.Outcomes.{AreFiles}
 use Rattle.flash_cgi.specs.OutputPools.{HoldFiles}
 use Rattle.flash_cgi.proofs.OutputByCall.{bytes-append}
-use Rattle.flash_laws.specs.Workers.PutsOut.{HasRead, IsAllThere, PutsOut, PutsOutStill, TextsArePutOut}
+use Rattle.flash_laws.specs.Workers.DeliversText.{HasRead, IsAllThere, DeliversText, StillDeliversText}
+use Rattle.flash_laws.specs.Workers.DeliversText.{TextsAreDelivered}
 use Rattle.flash_laws.specs.Workers.{TakesTurn, WorkersRun, Wrote}
 
 -- no byte was taken from an unchanged queue
@@ -43,7 +44,7 @@ module _ {W : Type 0} (works : TransitionRelation W) (quiescent : Claim W) (pool
     (run : WorkersRun works quiescent pools Free Expected) (own : CallsServeTheirDomain) (labels : LabelsFollow)
     (receive : OthersReceive) where
   abbrev Puts : State → (j p : ℕ) → ProcessSlot W → Made → List ℕ → Type 0
-  Puts m j p process_slot made text = PutsOut works pools Free Expected m j p process_slot made text
+  Puts m j p process_slot made text = DeliversText works pools Free Expected m j p process_slot made text
 
   abbrev There : State → (j p : ℕ) → ProcessSlot W → List ℕ → Type 0
   There m j p process_slot text = IsAllThere works pools Free Expected m j p process_slot text
@@ -65,9 +66,9 @@ module _ {W : Type 0} (works : TransitionRelation W) (quiescent : Claim W) (pool
       (text : List ℕ) → IsOrderly m → ArePlaced m → AreFiles m → HoldFiles pools m process_slot.by
       → Puts m j p process_slot made text → ProcessSlotTurn copying works m process_slot yields r n next
       → (pipe_at m p).reading ≡ true → (pipe_at n p).reading ≡ true
-      → PutsOutStill works pools Free Expected n j p next made text r
+      → StillDeliversText works pools Free Expected n j p next made text r
   turns m n j p process_slot next yields r made text order placed good holds (inl expected) did was now =
-      record { after = t.after; later = t.later; instead = t.instead; puts_out = by t.goes }
+      record { after = t.after; later = t.later; instead = t.instead; delivers_text = by t.goes }
     where
       t : TakesTurn works quiescent pools Free Expected m n j p next made text r
       t = run.turns m n j p process_slot next yields r made text order placed good holds expected did
@@ -83,7 +84,7 @@ module _ {W : Type 0} (works : TransitionRelation W) (quiescent : Claim W) (pool
         after = made;
         later = text;
         instead = inl (refl, refl);
-        puts_out = inr (record {
+        delivers_text = inr (record {
           all = there.all ∙ ap (λ u. bytes_of (pipe_at u p).queue) (sym same.0);
           closed = ap (λ u. (pipe_at u p).writing) same.0 ∙ there.closed;
           free = same.1;
@@ -148,7 +149,7 @@ module _ {W : Type 0} (works : TransitionRelation W) (quiescent : Claim W) (pool
         record {
           rest = gave.rest;
           splits = gave.splits ∙ ap (λ (l : List ℕ). l ++ gave.rest) front;
-          puts_out = inl gave.expected;
+          delivers_text = inl gave.expected;
         }
     reads made text bytes is_readable (inr there) = record {
       rest = bytes_of takes.rest;
@@ -157,7 +158,7 @@ module _ {W : Type 0} (works : TransitionRelation W) (quiescent : Claim W) (pool
           ∙ (ap (λ (t : Text). bytes_of t) takes.was
           ∙ (bytes-append takes.text takes.rest
           ∙ ap (λ (l : List ℕ). l ++ bytes_of takes.rest) (some_bytes bytes is_readable)));
-      puts_out = inr (rest_there text there);
+      delivers_text = inr (rest_there text there);
     }
 
     ends : (made : Made) (text : List ℕ) → 0 < count → readable_at n by a ≡ Some [] → Puts m j p process_slot made text
@@ -183,8 +184,8 @@ module _ {W : Type 0} (works : TransitionRelation W) (quiescent : Claim W) (pool
   undenied m n j p by fd count q process_slot made text may opened (inr there) step =
       labels.reads pools m n by fd p count q may there.lies opened step
 
-  pub texts_are_put_out : TextsArePutOut works pools Free Expected
-  texts_are_put_out = record {
+  pub texts_are_delivered : TextsAreDelivered works pools Free Expected
+  texts_are_delivered = record {
     turns = turns;
     left = left;
     reads = λ m n j p by fd count a process_slot made text bytes order placed step other opened files job_queue

@@ -25,8 +25,8 @@ use Rattle.flash_laws.specs.Conn.{Conn}
 use Rattle.flash_laws.specs.Workers.WorkerSet.{WorkerSet}
 use Rattle.flash_laws.specs.Site.Past.{Past}
 use Rattle.flash_laws.specs.Site.Places.{is_run_by}
-use Rattle.flash_laws.specs.Workers.PutsOut as puts
-use Rattle.flash_laws.specs.Workers.PutsOut.{PutsOut, PutsOutStill}
+use Rattle.flash_laws.specs.Workers.DeliversText as puts
+use Rattle.flash_laws.specs.Workers.DeliversText.{DeliversText, StillDeliversText}
 use Rattle.flash_laws.specs.Run.Fits.{Progress, Ran, Broken, NotRun, Follows, HasRun, HasStep}
 use Rattle.flash_laws.specs.Run.OfferedBytes.{is_stopping, taken_by}
 use Rattle.flash_laws.specs.Run.{is_reading, step_fd, ends_of}
@@ -34,7 +34,7 @@ use Rattle.flash_laws.specs.Site.ClientConsistency.{FitsAt}
 use Rattle.flash_laws.specs.SiteContents.{SiteContents, AllMayShow, IsAmong}
 use Rattle.flash_laws.specs.SiteContents.Expected.{outcomes_by}
 use Rattle.flash_laws.specs.Site.{server}
-use Rattle.flash_laws.specs.Run.WorkerStates.{HasPipeOf, IsReadyFor, IsGiven, IsPuttingOut, HasPutOut, IsToCome}
+use Rattle.flash_laws.specs.Run.WorkerStates.{HasPipeOf, IsReadyFor, IsGiven, IsDelivering, HasDelivered, IsToCome}
 use Rattle.flash_laws.specs.Run.WorkerStates.{IsAtStep}
 use Rattle.flash_laws.specs.Run.WorkerStates.{is_starting}
 use Rattle.flash_laws.specs.declared.script_run.Run.{Run}
@@ -107,14 +107,14 @@ module _ (site_contents : SiteContents) (worker_set : WorkerSet) (laws : AllLaws
   module _ (fd : ℕ) (x : Conn) (script : List ℕ) (run : Run) (made : Made) (o : Progress) where
     module _ (s : Step) (at : in_place clients fd ≡ Some (of x (Some (InProgress run s)) script))
         (runs : (run.worker == k) ≡ true) (has : ends_of run s run.from ≡ true) where
-      putting-touches : IsPuttingOut worker_set m process_slot run made o
+      putting-touches : IsDelivering worker_set m process_slot run made o
           → Touches worker_set m n clients k process_slot.by
-      putting-touches h = by h.puts_out
+      putting-touches h = by h.delivers_text
         where
           here : run.worker ≡ k
           here = same-number run.worker k runs
 
-          by : puts.PutsOut worker_set.turns worker_set.pools worker_set.Free worker_set.Expected m
+          by : puts.DeliversText worker_set.turns worker_set.pools worker_set.Free worker_set.Expected m
               (worker_set.job_queue run.worker) h.has.pipe process_slot made h.more
               → Touches worker_set m n clients k process_slot.by
           by (inr there) = rests (worker_set.job_queue run.worker) there.free
@@ -256,7 +256,7 @@ module _ (site_contents : SiteContents) (worker_set : WorkerSet) (laws : AllLaws
         at_step = at_step;
       }
 
-      put-turn : HasPutOut worker_set m process_slot run made o → HasPutOut worker_set n next run made o
+      put-turn : HasDelivered worker_set m process_slot run made o → HasDelivered worker_set n next run made o
       put-turn h = record { free = (waits (worker_set.job_queue run.worker) h.free).1; whole = h.whole }
 
       -- the same part of the other response is written
@@ -297,14 +297,14 @@ module _ (site_contents : SiteContents) (worker_set : WorkerSet) (laws : AllLaws
 
       putting-turn : (s : Step) → is_stopping (InProgress run s) ≡ false → is_starting (InProgress run s) ≡ false
           → HasStep job m w o run s
-          → ((after : Made) → IsPuttingOut worker_set n next run after o → IsAtStep worker_set n next run after o s)
-          → IsPuttingOut worker_set m process_slot run made o → Turned s
-      putting-turn s going started has at_steps h = by still.instead still.puts_out
+          → ((after : Made) → IsDelivering worker_set n next run after o → IsAtStep worker_set n next run after o s)
+          → IsDelivering worker_set m process_slot run made o → Turned s
+      putting-turn s going started has at_steps h = by still.instead still.delivers_text
         where
-          still : PutsOutStill worker_set.turns worker_set.pools worker_set.Free worker_set.Expected n
+          still : StillDeliversText worker_set.turns worker_set.pools worker_set.Free worker_set.Expected n
               (worker_set.job_queue run.worker) h.has.pipe next made h.more r
           still = laws.texts.turns m n (worker_set.job_queue run.worker) h.has.pipe process_slot next yields r made
-              h.more turn.order turn.fixed.placed turn.fixed.files held-files h.puts_out turn.did
+              h.more turn.order turn.fixed.placed turn.fixed.files held-files h.delivers_text turn.did
               (turn.order.all_stand server run.from (on.ReadEnd h.has.pipe) h.has.reads)
               (turn.order_after.all_stand server run.from (on.ReadEnd h.has.pipe) (server-fd run.from ∙ h.has.reads))
 
@@ -315,14 +315,14 @@ module _ (site_contents : SiteContents) (worker_set : WorkerSet) (laws : AllLaws
           come_on Broken after later begins come = tt
           come_on (NotRun status past) after later begins come = absurd come
 
-          same : PutsOut worker_set.turns worker_set.pools worker_set.Free worker_set.Expected n
+          same : DeliversText worker_set.turns worker_set.pools worker_set.Free worker_set.Expected n
               (worker_set.job_queue run.worker) h.has.pipe next made h.more → Turned s
           same puts =
               unchanged s
               (at_steps made (record {
                 has = pipe-turn run h.has;
                 more = h.more;
-                puts_out = puts;
+                delivers_text = puts;
                 to_come =
                     h.to_come;
               }))
@@ -331,7 +331,7 @@ module _ (site_contents : SiteContents) (worker_set : WorkerSet) (laws : AllLaws
               → (shown_then : List Outcome) → after ≡ made_of w lines shown_then
               → ((there : List Outcome) → AllMayShow site_contents there shown
               → AllMayShow site_contents there shown_then)
-              → PutsOut worker_set.turns worker_set.pools worker_set.Free worker_set.Expected n
+              → DeliversText worker_set.turns worker_set.pools worker_set.Free worker_set.Expected n
               (worker_set.job_queue run.worker) h.has.pipe next after later → Turned s
           other after later x shown_then is shows puts = record {
             shown_now = shown_then;
@@ -346,19 +346,19 @@ module _ (site_contents : SiteContents) (worker_set : WorkerSet) (laws : AllLaws
                 (at_steps after (record {
                   has = pipe-turn run h.has;
                   more = later;
-                  puts_out = puts;
+                  delivers_text = puts;
                   to_come = come_on o after later x.begins h.to_come;
                 }));
           }
 
           by : Instead r made still.after h.more still.later
-              → PutsOut worker_set.turns worker_set.pools worker_set.Free worker_set.Expected n
+              → DeliversText worker_set.turns worker_set.pools worker_set.Free worker_set.Expected n
               (worker_set.job_queue run.worker) h.has.pipe next still.after still.later → Turned s
           by (inl is) puts =
               same
-              (subst (λ (l : List ℕ). PutsOut worker_set.turns worker_set.pools worker_set.Free worker_set.Expected
+              (subst (λ (l : List ℕ). DeliversText worker_set.turns worker_set.pools worker_set.Free worker_set.Expected
               n (worker_set.job_queue run.worker) h.has.pipe next made l) is.1
-              (subst (λ (a : Made). PutsOut worker_set.turns worker_set.pools worker_set.Free worker_set.Expected n
+              (subst (λ (a : Made). DeliversText worker_set.turns worker_set.pools worker_set.Free worker_set.Expected n
               (worker_set.job_queue run.worker) h.has.pipe next a still.later) is.0 puts))
           by (inr x) puts =
               let may : site_contents.refuses.of_workers x.refused.why ≡ true =

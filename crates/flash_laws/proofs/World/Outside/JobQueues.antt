@@ -20,14 +20,14 @@ use Rattle.flash_cgi.specs.Expected.{Made}
 use Rattle.flash_laws.specs.Workers.WorkerSet.{WorkerSet, IsFixedFor}
 use Rattle.flash_laws.specs.Site.Past.{Past}
 use Rattle.flash_laws.specs.Site.Places.{is_free}
-use Rattle.flash_laws.specs.Workers.PutsOut.{PutsOut}
+use Rattle.flash_laws.specs.Workers.DeliversText.{DeliversText}
 use Rattle.flash_laws.specs.Run.Fits.{Progress, HasPipe, HasStep}
 use Rattle.flash_laws.specs.Run.OfferedBytes.{is_stopping}
 use Rattle.flash_laws.specs.Run.{worker_domain, job_pipe}
 use Rattle.flash_laws.specs.Site.ClientConsistency.{FitsAt, AreAtJobQueues, AllFit}
 use Rattle.flash_laws.specs.SiteContents.{SiteContents}
 use Rattle.flash_laws.specs.Site.{server, KeepsSite}
-use Rattle.flash_laws.specs.Run.WorkerStates.{HasPipeOf, IsGiven, IsPuttingOut, IsAtStep}
+use Rattle.flash_laws.specs.Run.WorkerStates.{HasPipeOf, IsGiven, IsDelivering, IsAtStep}
 use Rattle.flash_laws.specs.declared.script_run.Run.{Run}
 use Rattle.flash_laws.specs.declared.script_run.Step.{Step}
 use Rattle.flash_laws.specs.declared.script_run.Step.TheVariants.{GivingPipe, MakingJob, WritingJob, DroppingEnd}
@@ -78,11 +78,11 @@ module _ (worker_set : WorkerSet) (laws : AllLaws worker_set) where
         (order.one d process_slot.by g f (on.WriteEnd p) refl is
         (subst (λ q. descriptor m process_slot.by f ≡ Some (on.WriteEnd q)) (sym (same-pipe h.ready.has)) h.writes)).0
 
-    puts-writes : (made : Made) (o : Progress) → IsPuttingOut worker_set m process_slot run made o
+    puts-writes : (made : Made) (o : Progress) → IsDelivering worker_set m process_slot run made o
         → HasNotEnd m d (on.WriteEnd p)
-    puts-writes made o h = by h.puts_out
+    puts-writes made o h = by h.delivers_text
       where
-        by : PutsOut worker_set.turns worker_set.pools worker_set.Free worker_set.Expected m
+        by : DeliversText worker_set.turns worker_set.pools worker_set.Free worker_set.Expected m
             (worker_set.job_queue run.worker) h.has.pipe process_slot made h.more → HasNotEnd m d (on.WriteEnd p)
         by (inl expected) g is =
             let writes = laws.workers.writes m (worker_set.job_queue run.worker) h.has.pipe process_slot made h.more

@@ -1,5 +1,5 @@
-use Rattle.flash_laws.proofs.Site.Rounds.{turns_go_round}
+use Rattle.flash_laws.proofs.Site.Rounds.{turns_are_round_robin}
 use Rattle.flash_laws.proofs.laws.rounds_law.Goals as goal
 
 pub returns : goal.returns
-returns c = turns_go_round
+returns c = turns_are_round_robin

@@ -13,7 +13,7 @@ use Rattle.flash_laws.proofs.Site.SitePreservingTurns.{rounds-site_preserving}
 use Rattle.flash_laws.proofs.Site.IdleMoments.{actor_quiesces}
 use Rattle.flash_laws.proofs.TheLaws.{TheLaws}
 use Rattle.flash_laws.proofs.World.AllLaws.{AllLaws}
-use Rattle.flash_laws.proofs.World.JobQueue.Texts.{texts_are_put_out}
+use Rattle.flash_laws.proofs.World.JobQueue.Texts.{texts_are_delivered}
 use Rattle.flash_laws.proofs.World.Idle.Whole.{idle_done}
 use Rattle.flash_laws.proofs.World.Steps.{step_keeps, run_keeps}
 use Rattle.flash_laws.proofs.World.Whole.{first_consistent, consistent_answered, consistent_whole}
@@ -58,7 +58,7 @@ all_laws g c count job_queue pools jobs apart = record {
   runs = c.runs_law.ensures;
   run_keeps = c.run_keeping_law.ensures;
   workers = c.runs.ensures pools;
-  texts = texts_are_put_out g.W.RunsScripts.turns g.W.RunsScripts.quiescent pools (g.W.RunsScripts.free pools)
+  texts = texts_are_delivered g.W.RunsScripts.turns g.W.RunsScripts.quiescent pools (g.W.RunsScripts.free pools)
       (g.W.RunsScripts.expected pools) (c.runs.ensures pools)
       c.calls_serve_their_domain.ensures c.labels_follow.ensures c.others_receive.ensures;
   apart = apart;

@@ -5,7 +5,7 @@ use Rattle.flash_laws.specs.World.{JobQueuesAreApart}
 use Rattle.flash_laws.proofs.Conn.Responses.{WindowLaws}
 use Rattle.flash_laws.proofs.TheLaws.{TheLaws}
 use Rattle.flash_laws.proofs.World.AllLaws.{AllLaws}
-use Rattle.flash_laws.proofs.World.JobQueue.Texts.{texts_are_put_out}
+use Rattle.flash_laws.proofs.World.JobQueue.Texts.{texts_are_delivered}
 use Rattle.flash_progress.proofs.Invariant.{MoreLaws}
 use Rattle.flash_progress.proofs.Hosted.{hosted_becomes_idle}
 use Rattle.flash_progress.proofs.Served.{becomes_idle, serves_all}
@@ -50,7 +50,7 @@ all_laws g c count job_queue pools jobs apart = record {
   runs = c.runs_law.ensures;
   run_keeps = c.run_keeping_law.ensures;
   workers = c.runs.ensures pools;
-  texts = texts_are_put_out g.W.RunsScripts.turns g.W.RunsScripts.quiescent pools (g.W.RunsScripts.free pools)
+  texts = texts_are_delivered g.W.RunsScripts.turns g.W.RunsScripts.quiescent pools (g.W.RunsScripts.free pools)
       (g.W.RunsScripts.expected pools) (c.runs.ensures pools)
       c.calls_serve_their_domain.ensures c.labels_follow.ensures c.others_receive.ensures;
   apart = apart;

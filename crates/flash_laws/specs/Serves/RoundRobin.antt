@@ -21,7 +21,7 @@ abbrev pub IsBefore : (next : PendingCall) → (fd : ℕ) → Type 0
 IsBefore (At gd) fd = fd < gd
 IsBefore w fd = ⊤
 
-pub record TurnsGoRound : Type 0 where
+pub record TurnsAreRoundRobin : Type 0 where
   -- a client takes the next turn, too, only if its call succeeded, it does not wait for a worker, it does more than
   -- read, and it has no response that is taken whole while more input is buffered
   pub passes : (workers : ℕ) (clients : List (Option Client)) (fd : ℕ) (last : Reply)
@@ -32,7 +32,7 @@ pub record TurnsGoRound : Type 0 where
   pub rises : (workers : ℕ) (clients : List (Option Client)) (fd gd : ℕ) (last : Reply)
       → in_rounds workers clients (At fd) last (At gd) → fd ≤ gd
   -- and no client between them that may take a turn is skipped
-  pub skips_nobody : (workers : ℕ) (clients : List (Option Client)) (was next : PendingCall) (last : Reply) (fd : ℕ)
+  pub skips_no_client : (workers : ℕ) (clients : List (Option Client)) (was next : PendingCall) (last : Reply) (fd : ℕ)
       (x : Client)
       → in_rounds workers clients was last next → IsAfter was fd → IsBefore next fd → in_place clients fd ≡ Some x
       → IsFalse (may_go (has_free workers clients) x)
