@@ -82,6 +82,7 @@ impl<R: Files + Drop> TreeBacking<R> {
     /// A store over the folder. It is not honest, because others write the files.
     pub fn on_disk(files: R, alloc: Global, index: Index) -> TreeBacking<R>
         ensures honest { (disk_of result).honest ≡ false }
+        ensures lengths { (disk_of result).reported ≡ index.lengths }
         ensures names { result.names ≡ index.names }
         ensures failures { (disk_of result).failures ≡ 0 }
     {
@@ -100,6 +101,7 @@ impl<R: Files> TreeBacking<R> {
     /// The files.
     pub fn index(&self) -> &Index
         ensures names { result.now.names ≡ self.now.names }
+        ensures lengths { result.now.lengths ≡ self.now.lengths }
         ensures are { AreNames self.now.names }
     {
         let _count = self.index.count();

@@ -1,5 +1,5 @@
 //! The files below a folder.
-ghost use Rattle.std.specs.Prelude.{◌≡◌, ◌+◌, ◌-◌, ◌<◌, [], length, All, Some, IsTrue, slice_get, string_bytes, map};
+ghost use Rattle.std.specs.Prelude.{◌≡◌, ◌+◌, ◌-◌, ◌<◌, [], length, All, Some, IsTrue, slice_get, string_bytes, map, sum, min, ◌^◌, Contains, IfOk, OnOk, ◌++◌, ◌∷◌};
 ghost use Rattle.iol_back.specs.Folder.{AreNames, MayFollow, Precedes};
 
 use crate::stamp::{Stamp, stamp_at};
@@ -57,7 +57,9 @@ impl Index {
     }
 
     /// The files of this index that the program may read, with their stamps. The others count as entries that are not in the index.
-    pub fn readable<R: Files + AllocGlobal>(&self, rt: &R) -> Result<Index, AllocError> {
+    pub fn readable<R: Files + AllocGlobal>(&self, rt: &R) -> Result<Index, AllocError>
+        ensures { IfOk result (λ index. All (λ name. Contains self.now.names name) index.names) }
+    {
         let alloc = rt.alloc();
         let mut index = Index::new(alloc, String::from_str(alloc, self.root.as_str())?);
         index.skipped = self.skipped;
@@ -73,7 +75,8 @@ impl Index {
     }
 
     fn new(alloc: Global, root: String) -> Index
-        ensures { result.names ≡ [] }
+        ensures names { result.names ≡ [] }
+        ensures lengths { result.lengths ≡ [] }
     {
         Index {
             root,
@@ -123,7 +126,10 @@ impl Index {
     }
 
     /// The total length of the files in bytes.
-    pub fn total(&self) -> u64 {
+    #[tactic(auto, using(crate::proofs::Totals::total_more))]
+    pub fn total(&self) -> u64
+        ensures { result ≡ min (sum self.now.lengths) (2 ^ 64 - 1) }
+    {
         let mut total = 0u64;
         for stamp in &self.stamps {
             total = total.saturating_add(u64::from(stamp.length()));
@@ -153,7 +159,9 @@ impl Index {
     }
 
     // Counts an entry that is not in the index.
-    fn skip(&mut self) {
+    fn skip(&mut self)
+        ensures { self.new ≡ self.old }
+    {
         self.skipped = self.skipped.saturating_add(1);
     }
 
@@ -189,6 +197,8 @@ impl Index {
     // Adds a file after the others.
     fn add(&mut self, name: String, stamp: Stamp) -> Result<(), AllocError>
         requires { MayFollow self.old.names (string_bytes name) }
+        ensures names { OnOk result (self.new.names ≡ self.old.names ++ string_bytes name ∷ []) }
+        ensures lengths { OnOk result (self.new.lengths ≡ self.old.lengths ++ stamp.length ∷ []) }
     {
         self.names.reserve(1)?;
         self.stamps.reserve(1)?;

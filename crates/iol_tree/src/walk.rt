@@ -1,4 +1,6 @@
 //! The names of the files below a folder.
+ghost use Rattle.std.specs.Prelude.{◌≡◌, ◌≢◌, ◌++◌, [], IfOk, codes, string_bytes};
+
 use iol_core::limits::MAX_NAME_BYTES;
 use std::alloc::{AllocError, Global};
 use std::io::ErrorKind;
@@ -73,7 +75,12 @@ impl Walk {
 }
 
 /// A path below another: the other itself if the path is empty, and the path itself if the other is empty.
-pub fn join(alloc: Global, above: &str, below: &str) -> Result<String, AllocError> {
+pub fn join(alloc: Global, above: &str, below: &str) -> Result<String, AllocError>
+    ensures below { above.now ≡ [] → IfOk result (λ path. string_bytes path ≡ below.now) }
+    ensures above { below.now ≡ [] → IfOk result (λ path. string_bytes path ≡ above.now) }
+    ensures both { above.now ≢ [] → below.now ≢ [] →
+        IfOk result (λ path. string_bytes path ≡ above.now ++ codes "/" ++ below.now) }
+{
     if above.is_empty() {
         return String::from_str(alloc, below);
     }
