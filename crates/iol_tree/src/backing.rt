@@ -3,6 +3,7 @@ ghost use Rattle.std.specs.Prelude.{◌≡◌, ◌+◌, ◌-◌, ◌<◌, ◌≤
 ghost use Rattle.iol_back.specs.Disk.{IsSlot, ReadsAt, length_reported, raised};
 ghost use Rattle.iol_back.specs.Folder.{AreListed, AreNames};
 ghost use Rattle.iol_back.specs.Lists.{items_of};
+ghost use Rattle.iol_tree.specs.Index.{file_lengths};
 ghost use Rattle.iol_tree.specs.Store.{HaveLengths, HoldsBytes, disk_of};
 
 use crate::contents::store_of;
@@ -38,13 +39,14 @@ pub struct TreeBacking<R: Files> {
 
 impl<R: Files> Model for TreeBacking<R> {
     ghost use Rattle.std.specs.Prelude.{◌≡◌, true};
+    ghost use Rattle.iol_tree.specs.Index.{file_lengths};
     ghost use Rattle.iol_tree.specs.Store.{Store};
 
     ghost Value = { Store };
 
     ghost view = { λ t. record {
       names = t.index.names;
-      lengths = t.index.lengths;
+      lengths = file_lengths t.index;
       memory = t.memory;
       in_memory = t.is_in_memory;
       failures = t.failures;
@@ -62,7 +64,7 @@ impl<R: Files + Drop> TreeBacking<R> {
         index: Index,
         contents: Vec<Vec<u8>>,
     ) -> Result<TreeBacking<R>, AllocError>
-        requires { HaveLengths index.lengths (items_of contents.items) }
+        requires { HaveLengths (file_lengths index) (items_of contents.items) }
         ensures honest { IfOk result (λ t. (disk_of t).honest ≡ true) }
         ensures bytes { IfOk result (λ t. HoldsBytes (items_of contents.items) (disk_of t).slots) }
         ensures names { IfOk result (λ t. t.names ≡ index.names) }
@@ -82,7 +84,7 @@ impl<R: Files + Drop> TreeBacking<R> {
     /// A store over the folder. It is not honest, because others write the files.
     pub fn on_disk(files: R, alloc: Global, index: Index) -> TreeBacking<R>
         ensures honest { (disk_of result).honest ≡ false }
-        ensures lengths { (disk_of result).reported ≡ index.lengths }
+        ensures lengths { (disk_of result).reported ≡ file_lengths index }
         ensures names { result.names ≡ index.names }
         ensures failures { (disk_of result).failures ≡ 0 }
     {
@@ -101,7 +103,7 @@ impl<R: Files> TreeBacking<R> {
     /// The files.
     pub fn index(&self) -> &Index
         ensures names { result.now.names ≡ self.now.names }
-        ensures lengths { result.now.lengths ≡ self.now.lengths }
+        ensures lengths { file_lengths result.now ≡ self.now.lengths }
         ensures are { AreNames self.now.names }
     {
         let _count = self.index.count();

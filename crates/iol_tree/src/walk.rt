@@ -1,5 +1,6 @@
 //! The names of the files below a folder.
-ghost use Rattle.std.specs.Prelude.{◌≡◌, ◌≢◌, ◌++◌, [], IfOk, codes, string_bytes};
+ghost use Rattle.std.specs.Prelude.{◌≡◌, ◌++◌, IfOk, codes, string_bytes};
+ghost use Rattle.iol_tree.specs.Index.{path_below};
 
 use iol_core::limits::MAX_NAME_BYTES;
 use std::alloc::{AllocError, Global};
@@ -76,10 +77,7 @@ impl Walk {
 
 /// A path below another: the other itself if the path is empty, and the path itself if the other is empty.
 pub fn join(alloc: Global, above: &str, below: &str) -> Result<String, AllocError>
-    ensures below { above.now ≡ [] → IfOk result (λ path. string_bytes path ≡ below.now) }
-    ensures above { below.now ≡ [] → IfOk result (λ path. string_bytes path ≡ above.now) }
-    ensures both { above.now ≢ [] → below.now ≢ [] →
-        IfOk result (λ path. string_bytes path ≡ above.now ++ codes "/" ++ below.now) }
+    ensures { IfOk result (λ path. string_bytes path ≡ path_below above.now below.now) }
 {
     if above.is_empty() {
         return String::from_str(alloc, below);
@@ -87,6 +85,13 @@ pub fn join(alloc: Global, above: &str, below: &str) -> Result<String, AllocErro
     if below.is_empty() {
         return String::from_str(alloc, above);
     }
+    with_slash(alloc, above, below)
+}
+
+// Two paths, joined by a slash.
+fn with_slash(alloc: Global, above: &str, below: &str) -> Result<String, AllocError>
+    ensures { IfOk result (λ path. string_bytes path ≡ above.now ++ codes "/" ++ below.now) }
+{
     format!(in alloc; "{above}/{below}")
 }
 
