@@ -15,6 +15,15 @@ pub record IndexedFiles : Type 0 where
 abbrev pub file_lengths : IndexedFiles → List ℕ
 file_lengths files = map (λ s. s.length) files.stamps
 
+-- a path below another; either may be empty
+abbrev pub path_below : (above below : List ℕ) → List ℕ
+path_below above below =
+    if length above == 0 then below else (if length below == 0 then above else above ++ codes "/" ++ below)
+
+-- the paths of the files: each file is below the folder
+abbrev pub file_paths : IndexedFiles → List (List ℕ)
+file_paths files = map (λ name. path_below files.root name) files.names
+
 -- two indices have the same files, with the same stamps
 abbrev pub HaveSameFiles : (one other : IndexedFiles) → Type 0
 HaveSameFiles one other = (one.names ≡ other.names) × (one.stamps ≡ other.stamps)
@@ -57,8 +66,3 @@ pub record IsPartOf (all some : IndexedFiles) : Type 0 where
   pub root : some.root ≡ all.root
   pub files : All (λ file. Contains (zip all.names all.stamps) file) (zip some.names some.stamps)
   pub skipped : some.skipped ≡ raised_by all.skipped (length all.names - length some.names)
-
--- the path of a file or a folder with one path below that with another; either may be empty
-abbrev pub path_below : (above below : List ℕ) → List ℕ
-path_below above below =
-    if length above == 0 then below else (if length below == 0 then above else above ++ codes "/" ++ below)

@@ -1,10 +1,10 @@
 //! A store of the files below a folder.
-ghost use Rattle.std.specs.Prelude.{◌≡◌, ◌+◌, ◌-◌, ◌<◌, ◌≤◌, ◌↔◌, length, true, false, Some, IsSome, IfSome, IfOk};
-ghost use Rattle.iol_back.specs.Disk.{IsSlot, ReadsAt, length_reported, raised};
+ghost use Rattle.std.specs.Prelude.{◌≡◌, ◌+◌, ◌-◌, ◌<◌, ◌≤◌, ◌↔◌, length, true, false, Some, IsErr, IsSome, IfSome, IfOk, OnOk};
+ghost use Rattle.iol_back.specs.Disk.{IsSlot, ReadsAt, WritesAt, length_reported, raised};
 ghost use Rattle.iol_back.specs.Folder.{AreListed, AreNames};
 ghost use Rattle.iol_back.specs.Lists.{items_of};
 ghost use Rattle.iol_tree.specs.Index.{file_lengths};
-ghost use Rattle.iol_tree.specs.Store.{HaveLengths, HoldsBytes, disk_of};
+ghost use Rattle.iol_tree.specs.Store.{HaveLengths, HoldsBytes, IfOnDisk, KeepsFiles, disk_of};
 
 use crate::contents::store_of;
 use crate::index::Index;
@@ -47,6 +47,7 @@ impl<R: Files> Model for TreeBacking<R> {
     ghost view = { λ t. record {
       names = t.index.names;
       lengths = file_lengths t.index;
+      skipped = t.index.skipped;
       memory = t.memory;
       in_memory = t.is_in_memory;
       failures = t.failures;
@@ -68,6 +69,8 @@ impl<R: Files + Drop> TreeBacking<R> {
         ensures honest { IfOk result (λ t. (disk_of t).honest ≡ true) }
         ensures bytes { IfOk result (λ t. HoldsBytes (items_of contents.items) (disk_of t).slots) }
         ensures names { IfOk result (λ t. t.names ≡ index.names) }
+        ensures lengths { IfOk result (λ t. t.lengths ≡ file_lengths index) }
+        ensures skipped { IfOk result (λ t. t.skipped ≡ index.skipped) }
         ensures failures { IfOk result (λ t. (disk_of t).failures ≡ 0) }
     {
         let memory = store_of(alloc, contents)?;
@@ -86,6 +89,7 @@ impl<R: Files + Drop> TreeBacking<R> {
         ensures honest { (disk_of result).honest ≡ false }
         ensures lengths { (disk_of result).reported ≡ file_lengths index }
         ensures names { result.names ≡ index.names }
+        ensures skipped { result.skipped ≡ index.skipped }
         ensures failures { (disk_of result).failures ≡ 0 }
     {
         TreeBacking {
@@ -104,6 +108,7 @@ impl<R: Files> TreeBacking<R> {
     pub fn index(&self) -> &Index
         ensures names { result.now.names ≡ self.now.names }
         ensures lengths { file_lengths result.now ≡ self.now.lengths }
+        ensures skipped { result.now.skipped ≡ self.now.skipped }
         ensures are { AreNames self.now.names }
     {
         let _count = self.index.count();
@@ -163,7 +168,9 @@ impl<R: Files> TreeBacking<R> {
     // Reads bytes of a file of the folder.
     fn read_folder(&mut self, file: FileId, at: u32, into: &mut [u8]) -> Result<(), StoreFault>
         requires { self.old.in_memory ≡ false }
-        ensures { ReadsAt file at (disk_of self.old) (disk_of self.new) into.old into.new result }
+        ensures reads { ReadsAt file at (disk_of self.old) (disk_of self.new) into.old into.new result }
+        ensures file { OnOk result (file ≤ length self.old.names) }
+        ensures keeps { KeepsFiles self.old self.new }
     {
         if self.failures == u64::MAX {
             return Err(self.fail());
@@ -192,7 +199,13 @@ impl<R: Files> Backing for TreeBacking<R> {
         }
     }
 
-    fn read_at(&mut self, file: FileId, at: u32, into: &mut [u8]) -> Result<(), StoreFault> {
+    fn read_at(&mut self, file: FileId, at: u32, into: &mut [u8]) -> Result<(), StoreFault>
+        ensures reads { ReadsAt file at (disk_of self.old) (disk_of self.new) into.old into.new result }
+
+        // Over the folder only for a file of the index.
+        ensures file { IfOnDisk self.old (OnOk result (file ≤ length self.old.names)) }
+        ensures keeps { KeepsFiles self.old self.new }
+    {
         if self.is_in_memory {
             self.memory.read_at(file, at, into)
         } else {
@@ -201,7 +214,11 @@ impl<R: Files> Backing for TreeBacking<R> {
     }
 
     /// Writes to the bytes in memory. Over the folder it fails.
-    fn write_at(&mut self, file: FileId, at: u32, bytes: &[u8]) -> Result<(), StoreFault> {
+    fn write_at(&mut self, file: FileId, at: u32, bytes: &[u8]) -> Result<(), StoreFault>
+        ensures writes { WritesAt file at bytes.now (disk_of self.old) (disk_of self.new) result }
+        ensures refused { IfOnDisk self.old (IsErr result) }
+        ensures keeps { KeepsFiles self.old self.new }
+    {
         if self.is_in_memory {
             self.memory.write_at(file, at, bytes)
         } else {

@@ -1,6 +1,6 @@
 //! The files below a folder.
 ghost use Rattle.std.specs.Prelude.{◌≡◌, ◌+◌, ◌-◌, ◌<◌, ◌^◌, ◌↔◌, All, IfOk, IsTrue, OnErr, OnOk, Some, length, min, slice_get, string_bytes, sum};
-ghost use Rattle.iol_tree.specs.Index.{AddsOrSkips, HaveSameFiles, IsPartOf, file_lengths, is_before, no_files, with_file, with_skipped};
+ghost use Rattle.iol_tree.specs.Index.{AddsOrSkips, HaveSameFiles, IsPartOf, file_lengths, file_paths, is_before, no_files, with_file, with_skipped};
 ghost use Rattle.std.specs.List.{list_all};
 ghost use Rattle.iol_back.specs.Folder.{AreNames, MayFollow, Precedes};
 
@@ -214,12 +214,20 @@ impl Index {
         Ok(())
     }
 
+    // The path of a file: that of the folder, and the file's name.
+    fn path(&self, alloc: Global, place: usize) -> Result<String, AllocError>
+        requires { place < length self.now.names }
+        ensures { IfOk result (λ path. slice_get (file_paths self.now) place ≡ Some (string_bytes path)) }
+    {
+        join(alloc, self.root.as_str(), self.name(place))
+    }
+
     /// Opens a file for reading. Fails if the file has changed. Looks at the file first, because opening a pipe waits for its
     /// other end.
     pub fn open<R: Files>(&self, files: &R, alloc: Global, place: usize) -> io::Result<R::File>
         requires { place < length self.now.names }
     {
-        let path = join(alloc, self.root.as_str(), self.name(place))?;
+        let path = self.path(alloc, place)?;
         if stamp_at(files, path.as_str()) != Some(self.stamp(place)) {
             return Err(io::Error::from(ErrorKind::InvalidData));
         }

@@ -1,6 +1,10 @@
 //! The names of the files below a folder.
-ghost use Rattle.std.specs.Prelude.{◌≡◌, ◌++◌, IfOk, codes, string_bytes};
-ghost use Rattle.iol_tree.specs.Index.{path_below};
+ghost use Rattle.std.specs.Prelude.{◌≡◌, ◌<◌, ◌++◌, [], IfOk, OnOk, codes, length, string_bytes};
+ghost use Rattle.std.specs.List.Sorted.{IsSorted};
+ghost use Rattle.std.specs.String.{string_cmp};
+ghost use Rattle.iol_core.specs.declared.limits.TheConstants.{MAX_NAME_BYTES};
+ghost use Rattle.iol_tree.specs.Index.{path_below, raised_by};
+ghost use Rattle.iol_tree.specs.Walk.{IsSkipped, TakesEntry};
 
 use iol_core::limits::MAX_NAME_BYTES;
 use std::alloc::{AllocError, Global};
@@ -23,7 +27,11 @@ pub struct Walk {
 }
 
 impl Walk {
-    fn new(alloc: Global) -> Walk {
+    fn new(alloc: Global) -> Walk
+        ensures names { result.names.items ≡ [] }
+        ensures skipped { result.skipped ≡ 0 }
+        ensures folders { result.folders.items ≡ [] }
+    {
         Walk {
             names: Vec::new(alloc),
             skipped: 0,
@@ -31,7 +39,9 @@ impl Walk {
         }
     }
 
-    fn skip(&mut self) {
+    fn skip(&mut self)
+        ensures { self.new ≡ record self.old { skipped = raised_by self.old.skipped 1 } }
+    {
         self.skipped = self.skipped.saturating_add(1);
     }
 
@@ -60,7 +70,10 @@ impl Walk {
         rt: &R,
         root: &str,
         name: String,
-    ) -> Result<(), AllocError> {
+    ) -> Result<(), AllocError>
+        ensures takes { OnOk result (TakesEntry (string_bytes name) self.old self.new) }
+        ensures long { MAX_NAME_BYTES < length (string_bytes name) → IsSkipped self.old self.new }
+    {
         if name.len() > MAX_NAME_BYTES {
             self.skip();
             return Ok(());
@@ -100,6 +113,7 @@ fn with_slash(alloc: Global, above: &str, below: &str) -> Result<String, AllocEr
 pub fn walk_below<R>(rt: &R, root: &str) -> io::Result<Walk>
 where
     R: Files + AllocGlobal + Clone + Drop,
+    ensures { IfOk result (λ walk. IsSorted string_cmp walk.names.items) }
 {
     let mut walk = Walk::new(rt.alloc());
     walk.read(rt, root, "")?;
