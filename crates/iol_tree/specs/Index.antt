@@ -1,5 +1,5 @@
 -- The files below a folder, as an index lists them.
-use Rattle.std.specs.Prelude.{◌≡◌, ℕ, ◌+◌, ◌-◌, ◌^◌, List, [], ◌∷◌, ◌++◌, ◌==◌, ◌⊎◌, if◌then◌else◌, Bool, ℤ, All, Contains, codes, length, map, min, take}
+use Rattle.std.specs.Prelude.{◌≡◌, ℕ, ◌+◌, ◌-◌, ◌^◌, List, [], ◌∷◌, ◌++◌, ◌==◌, ◌≤◌, ◌⊎◌, if◌then◌else◌, Bool, ℤ, All, Contains, codes, length, map, min, take}
 use Rattle.std.specs.List.{zip}
 use Rattle.std.specs.Ordering.{int_cmp, is_lt, ordering_then}
 use Rattle.iol_tree.specs.declared.stamp.Stamp.{Stamp}
@@ -59,6 +59,13 @@ pub record Adds (name : List ℕ) (old new : IndexedFiles) : Type 0 where
 -- the file was added, or counts as an entry that is not listed
 abbrev pub AddsOrSkips : (name : List ℕ) (old new : IndexedFiles) → Type 0
 AddsOrSkips name old new = Adds name old new ⊎ (new ≡ with_skipped old)
+
+-- Some files were added as the last ones, and the others of n files count as entries that are not listed.
+pub record ListsOrCounts (n : ℕ) (old new : IndexedFiles) : Type 0 where
+  pub root : new.root ≡ old.root
+  pub names : take (length old.names) new.names ≡ old.names
+  pub few : length new.names ≤ length old.names + n
+  pub skipped : new.skipped ≡ raised_by old.skipped (n - (length new.names - length old.names))
 
 -- An index of the same folder with some of the files of another, with their names and stamps. All others count as
 -- entries that are not listed.

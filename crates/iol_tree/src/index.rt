@@ -1,6 +1,6 @@
 //! The files below a folder.
 ghost use Rattle.std.specs.Prelude.{◌≡◌, ◌+◌, ◌-◌, ◌<◌, ◌^◌, ◌↔◌, All, IfOk, IsTrue, OnErr, OnOk, Some, length, min, slice_get, string_bytes, sum};
-ghost use Rattle.iol_tree.specs.Index.{AddsOrSkips, HaveSameFiles, IsPartOf, file_lengths, file_paths, is_before, no_files, with_file, with_skipped};
+ghost use Rattle.iol_tree.specs.Index.{AddsOrSkips, HaveSameFiles, IsPartOf, ListsOrCounts, file_lengths, file_paths, is_before, no_files, with_file, with_skipped};
 ghost use Rattle.std.specs.List.{list_all};
 ghost use Rattle.iol_back.specs.Folder.{AreNames, MayFollow, Precedes};
 
@@ -55,9 +55,7 @@ impl Index {
         let alloc = rt.alloc();
         let found = walk_below(rt, root)?;
         let mut index = Index::new(alloc, String::from_str(alloc, root)?, found.skipped);
-        for name in found.names {
-            index.add_found(rt, name)?;
-        }
+        index.add_all(rt, found.names)?;
         Ok(index)
     }
 
@@ -149,6 +147,21 @@ impl Index {
         ensures { result ≡ list_all (λ s. is_before s.changed time) self.now.stamps }
     {
         self.stamps.iter().all(|stamp| stamp.changed() < time)
+    }
+
+    // Adds the files that were found, or counts them as skipped.
+    fn add_all<R: Files + AllocGlobal>(
+        &mut self,
+        rt: &R,
+        names: Vec<String>,
+    ) -> Result<(), AllocError>
+        ensures { OnOk result (ListsOrCounts (length names.items) self.old self.new) }
+    {
+        let _skipped = self.skipped();
+        for name in names {
+            self.add_found(rt, name)?;
+        }
+        Ok(())
     }
 
     // Adds a file that was found, or counts it as skipped.
