@@ -1,7 +1,7 @@
 -- Files that are listed one after another.
-use Rattle.std.proofs.Common.{◌≡◌, ◌+◌, ◌-◌, ◌<◌, ◌≤◌, ◌∙◌, ◌++◌, ◌∷◌, ◌^◌, [], ℕ, List, ap, arith, inl, inr, length, min, refl, subst, sym, take}
+use Rattle.std.proofs.Common.{◌≡◌, ◌+◌, ◌<◌, ◌≤◌, ◌∙◌, ◌∷◌, ◌^◌, [], ℕ, List, ap, arith, inl, inr, length, refl, subst, sym, take}
 use Rattle.std.proofs.lemmas.List.{length_push, length-take, take-append-le, take_all}
-use Rattle.iol_tree.specs.Index.{AddsOrSkips, IndexedFiles, ListsOrCounts, raised_by, with_skipped}
+use Rattle.iol_tree.specs.Index.{AddsOrSkips, IndexedFiles, ListsOrCounts, raised_by}
 
 -- at first there are none
 pub listed_none : (s : IndexedFiles) → s.skipped < 2 ^ 64 → ListsOrCounts 0 s s

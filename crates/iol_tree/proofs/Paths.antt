@@ -1,5 +1,5 @@
 -- Paths below others.
-use Rattle.std.proofs.Common.{◌≡◌, ◌==◌, ◌++◌, ◌∙◌, ℕ, List, codes, false, length, refl, ap}
+use Rattle.std.proofs.Common.{◌≡◌, ◌==◌, ◌++◌, ℕ, List, codes, false, length, refl}
 use Rattle.iol_tree.specs.Index.{path_below}
 
 -- the path of two that are not empty

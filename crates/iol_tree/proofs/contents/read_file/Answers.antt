@@ -1,4 +1,4 @@
-use Rattle.std.proofs.Common.{◌≡◌, ◌∙◌, ℕ, Some, ap, arith, slice_get, length}
+use Rattle.std.proofs.Common.{◌∙◌, ℕ, Some, ap, arith}
 use Rattle.std.proofs.lemmas.Grind.{common_steps}
 use Rattle.iol_tree.proofs.Lengths.{length_at}
 use Rattle.iol_tree.proofs.contents.read_file.Goals as goal

@@ -1,4 +1,4 @@
-use Rattle.std.proofs.Common.{◌≡◌, ◌∙◌, ◌+◌, ap, arith, length, string_bytes, subst}
+use Rattle.std.proofs.Common.{ap, arith, length, string_bytes, subst}
 use Rattle.std.proofs.lemmas.List.{length_push}
 use Rattle.iol_tree.specs.Index.{ListsOrCounts}
 use Rattle.iol_tree.proofs.Listed.{listed_none, listed_more}

@@ -1,4 +1,4 @@
-use Rattle.std.proofs.Common.{◌≡◌, ◌∙◌, true≢false, sym}
+use Rattle.std.proofs.Common.{◌∙◌, true≢false, sym}
 use Rattle.iol_tree.proofs.SameNames.{names_decide}
 use Rattle.iol_tree.proofs.SameStamps.{stamps_decide}
 use Rattle.iol_tree.proofs.index.Index.is_same.Goals as goal

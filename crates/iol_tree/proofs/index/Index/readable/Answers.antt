@@ -1,4 +1,4 @@
-use Rattle.std.proofs.Common.{◌≡◌, ◌∙◌, List, ℕ, rules, arith, sym, subst, string_bytes}
+use Rattle.std.proofs.Common.{◌∙◌, rules, arith, string_bytes}
 use Rattle.iol_tree.proofs.Parts.{part_none, part_added, part_skipped, part_of}
 use Rattle.iol_tree.proofs.index.Index.readable.Goals as goal
 use Rattle.iol_tree.proofs.index.Index.readable.Goals.{then-takes+then-not-is_denied+in_ok-from_str+in_ok-add, else-takes}

@@ -1,4 +1,4 @@
-use Rattle.std.proofs.Common.{◌≡◌, ◌∙◌, ◌+◌, ◌-◌, ◌^◌, ℕ, List, arith, get_or, map, min, sum, sym, take}
+use Rattle.std.proofs.Common.{◌∙◌, arith, map}
 use Rattle.std.proofs.lemmas.Grind.{common_steps}
 use Rattle.iol_tree.proofs.Totals.{total_more}
 use Rattle.iol_tree.proofs.index.Index.total.Goals as goal
