@@ -168,7 +168,8 @@ impl<R: Files> TreeBacking<R> {
     // Reads bytes of a file of the folder.
     fn read_folder(&mut self, file: FileId, at: u32, into: &mut [u8]) -> Result<(), StoreFault>
         requires { self.old.in_memory ≡ false }
-        ensures reads { ReadsAt file at (disk_of self.old) (disk_of self.new) into.old into.new result }
+        ensures reads { ReadsAt file at (disk_of self.old) (disk_of self.new)
+            into.old into.new result }
         ensures file { OnOk result (file ≤ length self.old.names) }
         ensures keeps { KeepsFiles self.old self.new }
     {
@@ -200,7 +201,8 @@ impl<R: Files> Backing for TreeBacking<R> {
     }
 
     fn read_at(&mut self, file: FileId, at: u32, into: &mut [u8]) -> Result<(), StoreFault>
-        ensures reads { ReadsAt file at (disk_of self.old) (disk_of self.new) into.old into.new result }
+        ensures reads { ReadsAt file at (disk_of self.old) (disk_of self.new)
+            into.old into.new result }
 
         // Over the folder only for a file of the index.
         ensures file { IfOnDisk self.old (OnOk result (file ≤ length self.old.names)) }

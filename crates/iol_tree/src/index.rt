@@ -230,7 +230,8 @@ impl Index {
     // The path of a file: that of the folder, and the file's name.
     fn path(&self, alloc: Global, place: usize) -> Result<String, AllocError>
         requires { place < length self.now.names }
-        ensures { IfOk result (λ path. slice_get (file_paths self.now) place ≡ Some (string_bytes path)) }
+        ensures { IfOk result (λ path.
+            slice_get (file_paths self.now) place ≡ Some (string_bytes path)) }
     {
         join(alloc, self.root.as_str(), self.name(place))
     }

@@ -1,7 +1,8 @@
 //! Stamps, by which a change of a file is detected.
 ghost use Rattle.std.specs.Prelude.{◌≡◌, ◌≤◌, ◌↔◌, IsSome, IfSome};
-ghost use Rattle.std.specs.Fs.{IsFile, file_type, metadata_len};
+ghost use Rattle.std.specs.Fs.{metadata_len};
 ghost use Rattle.iol_core.specs.declared.limits.TheConstants.{MAX_FILE_BYTES};
+ghost use Rattle.iol_tree.specs.Stamp.{IsShortFile};
 
 use iol_core::limits::MAX_FILE_BYTES;
 use std::fs;
@@ -24,7 +25,7 @@ pub struct Stamp {
 impl Stamp {
     /// The stamp of what was found at a path, if it is a regular file of at most 2^24 bytes.
     pub fn of(found: &Metadata) -> Option<Stamp>
-        ensures found { IsSome result ↔ (IsFile (file_type found.now) × (metadata_len found.now ≤ MAX_FILE_BYTES)) }
+        ensures which { IsSome result ↔ IsShortFile found.now }
         ensures length { IfSome result (λ s. s.length ≡ metadata_len found.now) }
     {
         if !found.is_file() || found.len() > MAX_FILE_BYTES as u64 {
