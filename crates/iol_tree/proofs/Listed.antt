@@ -1,4 +1,4 @@
--- Files that are listed one after another.
+-- Files that are added to an index, one after another, or counted.
 use Rattle.std.proofs.Common.{◌≡◌, ◌+◌, ◌<◌, ◌≤◌, ◌∙◌, ◌∷◌, ◌^◌, [], ℕ, List, ap, arith, inl, inr, length, refl, subst, sym, take}
 use Rattle.std.proofs.lemmas.List.{length_push, length-take, take-append-le, take_all}
 use Rattle.iol_tree.specs.Index.{AddsOrSkips, IndexedFiles, ListsOrCounts, raised_by}

@@ -16,6 +16,7 @@ pub record ArePart (all : IndexedFiles) (n : ℕ) (some : IndexedFiles) : Type 0
   pub few : length some.names ≤ n
   pub skipped : some.skipped ≡ raised_by all.skipped (n - length some.names)
 
+-- one more of each
 zip-push : {A B : Type 0} → (xs : List A) (ys : List B) (a : A) (b : B) → length xs ≡ length ys
     → zip (xs ++ a ∷ []) (ys ++ b ∷ []) ≡ zip xs ys ++ (a, b) ∷ []
 zip-push [] [] a b same = refl
@@ -23,6 +24,7 @@ zip-push [] (y ∷ ys) a b same = absurd (omega (arith, same))
 zip-push (x ∷ xs) [] a b same = absurd (omega (arith, same))
 zip-push (x ∷ xs) (y ∷ ys) a b same = λ i. (x, y) ∷ zip-push xs ys a b (omega (arith, same)) i
 
+-- two elements at one index
 in_zip : {A B : Type 0} → (xs : List A) (ys : List B) (k : ℕ) (a : A) (b : B) → slice_get xs k ≡ Some a
     → slice_get ys k ≡ Some b
     → Contains (zip xs ys) (a, b)

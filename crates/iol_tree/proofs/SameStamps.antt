@@ -11,16 +11,19 @@ use Rattle.iol_core.specs.declared.limits.TheConstants.{MAX_FILE_BYTES}
 use Rattle.iol_tree.specs.declared.stamp.Stamp.{Stamp}
 use Rattle.iol_tree.specs.contracts.stamp.StampPartialEq.TheImpl.{eq-value}
 
+-- both tests are true
 both_so : (s t : Bool) → (s && t) ≡ true → (s ≡ true) × (t ≡ true)
 both_so s t e = (first_so s t e, second_so s t e)
 
-times_eq : (a b : ℤ × ℤ) → Decides (int_eq a.0 b.0 && int_eq a.1 b.1) (a ≡ b)
-times_eq a b = (
+-- the test of two times
+times_decide : (a b : ℤ × ℤ) → Decides (int_eq a.0 b.0 && int_eq a.1 b.1) (a ≡ b)
+times_decide a b = (
   (λ e. let so = both_so (int_eq a.0 b.0) (int_eq a.1 b.1) e in
       λ i. ((Decides-int_eq a.0 b.0).0 so.0 i, (Decides-int_eq a.1 b.1).0 so.1 i)),
   (λ e. λ i. (Decides-int_eq a.0 b.0).1 (ap (λ (p : ℤ × ℤ). p.0) e) i && (Decides-int_eq a.1 b.1).1 (ap (λ (p : ℤ × ℤ). p.1) e) i),
 )
 
+-- the derived test of two stamps
 same : (x y : Stamp) → eq-value.it x y ≡ true → x ≡ y
 same x y e =
     let device = both_so (x.device == y.device) _ e in
@@ -32,15 +35,15 @@ same x y e =
       device = (Decides-eqb x.device y.device).0 device.0 i;
       node = (Decides-eqb x.node y.node).0 node.0 i;
       length = of_length i;
-      written = (times_eq x.written y.written).0 times.0 i;
-      changed = (times_eq x.changed y.changed).0 times.1 i;
+      written = (times_decide x.written y.written).0 times.0 i;
+      changed = (times_decide x.changed y.changed).0 times.1 i;
       short = is_prop→PathP (λ j. of_length j ≤ MAX_FILE_BYTES) (λ j. le_prop) x.short y.short i;
     }
 
 itself : (x : Stamp) → eq-value.it x x ≡ true
 itself x = λ i.
     (Decides-eqb x.device x.device).1 refl i && ((Decides-eqb x.node x.node).1 refl i
-    && ((Decides-eqb x.length x.length).1 refl i && ((times_eq x.written x.written).1 refl i && (times_eq x.changed x.changed).1 refl i)))
+    && ((Decides-eqb x.length x.length).1 refl i && ((times_decide x.written x.written).1 refl i && (times_decide x.changed x.changed).1 refl i)))
 
 pub stamp_decides : (x y : Stamp) → Decides (eq-value.it x y) (x ≡ y)
 stamp_decides x y = (same x y, λ e. subst (λ z. eq-value.it x z ≡ true) e (itself x))
