@@ -5,7 +5,7 @@ ghost use Rattle.std.specs.List.{list_all};
 ghost use Rattle.iol_back.specs.Folder.{AreNames, MayFollow, Precedes};
 
 use crate::stamp::{Stamp, stamp_at};
-use crate::walk::{join, walk_below};
+use crate::walk::{Walk, join, walk_below};
 use iol_core::limits::{MAX_FILES, MAX_NAME_BYTES};
 use std::alloc::{AllocError, Global};
 use std::cmp::Ordering;
@@ -52,8 +52,19 @@ impl Index {
         R: Files + AllocGlobal + Clone + Drop,
         ensures { IfOk result (λ index. index.root ≡ root.now) }
     {
-        let alloc = rt.alloc();
         let found = walk_below(rt, root)?;
+        let index = Index::of_walk(rt, root, found)?;
+        Ok(index)
+    }
+
+    // The files that a walk found. Those that cannot be listed count as skipped, with the entries that the walk skipped.
+    fn of_walk<R>(rt: &R, root: &str, found: Walk) -> Result<Index, AllocError>
+    where
+        R: Files + AllocGlobal,
+        ensures { IfOk result (λ index.
+            ListsOrCounts (length found.names.items) (no_files root.now found.skipped) index) }
+    {
+        let alloc = rt.alloc();
         let mut index = Index::new(alloc, String::from_str(alloc, root)?, found.skipped);
         index.add_all(rt, found.names)?;
         Ok(index)
