@@ -1,2 +1,8 @@
+mod Lengths
 pub mod Fillings
+mod Parts
+mod Paths
+mod Listed
 pub mod SameNames
+mod SameStamps
+mod Totals

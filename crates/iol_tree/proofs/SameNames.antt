@@ -1,18 +1,19 @@
 -- Lists of names that are the same.
-use Rattle.std.proofs.Common.{◌≡◌, true, List, [], ◌∷◌, refl, sym, map, string_bytes, String}
-use Rattle.std.specs.Cmp.{first_so, second_so}
-use Rattle.std.specs.Cmp.Lexicographic.{pointwise, same_text}
+use Rattle.std.proofs.Common.{◌≡◌, ◌&&◌, List, [], ◌∷◌, refl, subst, sym, map, nat_eq, string_bytes, String}
+use Rattle.std.specs.Bool.{Decides}
+use Rattle.std.specs.Cmp.Lexicographic.{bytes_decides, pointwise, pointwise_decides}
 use Rattle.std.specs.String.{string_eq}
-use mathlib.Core.Bool.{true≢false}
 
--- what a test of two lists of texts has told
-pub same_names : {Z : Type 0} → (a b : List (String Z)) → pointwise string_eq a b ≡ true
-    → map string_bytes a ≡ map string_bytes b
-same_names [] [] e = refl
-same_names [] (y ∷ ys) e = absurd (true≢false (sym e))
-same_names (x ∷ xs) [] e = absurd (true≢false (sym e))
-same_names (x ∷ xs) (y ∷ ys) e =
-    let first =
-    same_text (string_bytes x) (string_bytes y) (sym (first_so (string_eq x y) (pointwise string_eq xs ys) e)) in
-    let rest = same_names xs ys (second_so (string_eq x y) (pointwise string_eq xs ys) e) in
-    λ i. first i ∷ rest i
+-- the test of texts is that of their bytes
+tests : {Z : Type 0} → (a b : List (String Z))
+    → pointwise string_eq a b ≡ pointwise (pointwise nat_eq) (map string_bytes a) (map string_bytes b)
+tests [] [] = refl
+tests [] (y ∷ ys) = refl
+tests (x ∷ xs) [] = refl
+tests (x ∷ xs) (y ∷ ys) = λ i. string_eq x y && tests xs ys i
+
+-- the test of two lists of texts is true exactly if they have the same bytes
+pub names_decide : {Z : Type 0} → (a b : List (String Z))
+    → Decides (pointwise string_eq a b) (map string_bytes a ≡ map string_bytes b)
+names_decide a b = subst (λ t. Decides t (map string_bytes a ≡ map string_bytes b)) (sym (tests a b))
+    (pointwise_decides bytes_decides (map string_bytes a) (map string_bytes b))

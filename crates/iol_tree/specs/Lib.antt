@@ -1,1 +1,4 @@
+pub mod Index
+pub mod Stamp
 pub mod Store
+pub mod Walk

@@ -1,15 +1,27 @@
 -- The files below a folder, as a store.
-use Rattle.std.specs.Prelude.{◌≡◌, ℕ, Bool, true, false, List, [], length, map}
+use Rattle.std.specs.Prelude.{◌≡◌, ℕ, Bool, IsFalse, true, false, List, [], length, map}
 use Rattle.iol_back.specs.Disk.{Disk, content}
 
--- The names of the files, the lengths that they had when they were found, their bytes in memory, whether reads use
--- these, and the number of failed calls to the folder.
+-- The names of the files, the lengths that they had when they were found, the number of entries that are not among them,
+-- the bytes in memory, whether reads use these, and the number of failed calls to the folder.
 pub record Store : Type 0 where
   pub names : List (List ℕ)
   pub lengths : List ℕ
+  pub skipped : ℕ
   pub memory : Disk
   pub in_memory : Bool
   pub failures : ℕ
+
+-- a read or a write has changed neither the files, nor where their bytes are
+pub record KeepsFiles (old new : Store) : Type 0 where
+  pub names : new.names ≡ old.names
+  pub lengths : new.lengths ≡ old.lengths
+  pub skipped : new.skipped ≡ old.skipped
+  pub in_memory : new.in_memory ≡ old.in_memory
+
+-- a fact of a store over the folder
+abbrev pub IfOnDisk : Store → Type 0 → Type 0
+IfOnDisk s P = IsFalse s.in_memory → P
 
 -- the folder as a store: it is not honest, because others write the files
 abbrev pub folder_disk : Store → Disk

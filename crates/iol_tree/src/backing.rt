@@ -1,9 +1,10 @@
 //! A store of the files below a folder.
-ghost use Rattle.std.specs.Prelude.{◌≡◌, ◌+◌, ◌-◌, ◌<◌, ◌≤◌, ◌↔◌, length, true, false, Some, IsSome, IfSome, IfOk};
-ghost use Rattle.iol_back.specs.Disk.{IsSlot, ReadsAt, length_reported, raised};
+ghost use Rattle.std.specs.Prelude.{◌≡◌, ◌+◌, ◌-◌, ◌<◌, ◌≤◌, ◌↔◌, length, true, false, Some, IsErr, IsSome, IfSome, IfOk, OnOk};
+ghost use Rattle.iol_back.specs.Disk.{IsSlot, ReadsAt, WritesAt, length_reported, raised};
 ghost use Rattle.iol_back.specs.Folder.{AreListed, AreNames};
 ghost use Rattle.iol_back.specs.Lists.{items_of};
-ghost use Rattle.iol_tree.specs.Store.{HaveLengths, HoldsBytes, disk_of};
+ghost use Rattle.iol_tree.specs.Index.{file_lengths};
+ghost use Rattle.iol_tree.specs.Store.{HaveLengths, HoldsBytes, IfOnDisk, KeepsFiles, disk_of};
 
 use crate::contents::store_of;
 use crate::index::Index;
@@ -38,13 +39,15 @@ pub struct TreeBacking<R: Files> {
 
 impl<R: Files> Model for TreeBacking<R> {
     ghost use Rattle.std.specs.Prelude.{◌≡◌, true};
+    ghost use Rattle.iol_tree.specs.Index.{file_lengths};
     ghost use Rattle.iol_tree.specs.Store.{Store};
 
     ghost Value = { Store };
 
     ghost view = { λ t. record {
       names = t.index.names;
-      lengths = t.index.lengths;
+      lengths = file_lengths t.index;
+      skipped = t.index.skipped;
       memory = t.memory;
       in_memory = t.is_in_memory;
       failures = t.failures;
@@ -62,10 +65,12 @@ impl<R: Files + Drop> TreeBacking<R> {
         index: Index,
         contents: Vec<Vec<u8>>,
     ) -> Result<TreeBacking<R>, AllocError>
-        requires { HaveLengths index.lengths (items_of contents.items) }
+        requires { HaveLengths (file_lengths index) (items_of contents.items) }
         ensures honest { IfOk result (λ t. (disk_of t).honest ≡ true) }
         ensures bytes { IfOk result (λ t. HoldsBytes (items_of contents.items) (disk_of t).slots) }
         ensures names { IfOk result (λ t. t.names ≡ index.names) }
+        ensures lengths { IfOk result (λ t. t.lengths ≡ file_lengths index) }
+        ensures skipped { IfOk result (λ t. t.skipped ≡ index.skipped) }
         ensures failures { IfOk result (λ t. (disk_of t).failures ≡ 0) }
     {
         let memory = store_of(alloc, contents)?;
@@ -82,7 +87,9 @@ impl<R: Files + Drop> TreeBacking<R> {
     /// A store over the folder. It is not honest, because others write the files.
     pub fn on_disk(files: R, alloc: Global, index: Index) -> TreeBacking<R>
         ensures honest { (disk_of result).honest ≡ false }
+        ensures lengths { (disk_of result).reported ≡ file_lengths index }
         ensures names { result.names ≡ index.names }
+        ensures skipped { result.skipped ≡ index.skipped }
         ensures failures { (disk_of result).failures ≡ 0 }
     {
         TreeBacking {
@@ -100,6 +107,8 @@ impl<R: Files> TreeBacking<R> {
     /// The files.
     pub fn index(&self) -> &Index
         ensures names { result.now.names ≡ self.now.names }
+        ensures lengths { file_lengths result.now ≡ self.now.lengths }
+        ensures skipped { result.now.skipped ≡ self.now.skipped }
         ensures are { AreNames self.now.names }
     {
         let _count = self.index.count();
@@ -159,7 +168,10 @@ impl<R: Files> TreeBacking<R> {
     // Reads bytes of a file of the folder.
     fn read_folder(&mut self, file: FileId, at: u32, into: &mut [u8]) -> Result<(), StoreFault>
         requires { self.old.in_memory ≡ false }
-        ensures { ReadsAt file at (disk_of self.old) (disk_of self.new) into.old into.new result }
+        ensures reads { ReadsAt file at (disk_of self.old) (disk_of self.new)
+            into.old into.new result }
+        ensures file { OnOk result (file ≤ length self.old.names) }
+        ensures keeps { KeepsFiles self.old self.new }
     {
         if self.failures == u64::MAX {
             return Err(self.fail());
@@ -188,7 +200,14 @@ impl<R: Files> Backing for TreeBacking<R> {
         }
     }
 
-    fn read_at(&mut self, file: FileId, at: u32, into: &mut [u8]) -> Result<(), StoreFault> {
+    fn read_at(&mut self, file: FileId, at: u32, into: &mut [u8]) -> Result<(), StoreFault>
+        ensures reads { ReadsAt file at (disk_of self.old) (disk_of self.new)
+            into.old into.new result }
+
+        // Over the folder only for a file of the index.
+        ensures file { IfOnDisk self.old (OnOk result (file ≤ length self.old.names)) }
+        ensures keeps { KeepsFiles self.old self.new }
+    {
         if self.is_in_memory {
             self.memory.read_at(file, at, into)
         } else {
@@ -197,7 +216,11 @@ impl<R: Files> Backing for TreeBacking<R> {
     }
 
     /// Writes to the bytes in memory. Over the folder it fails.
-    fn write_at(&mut self, file: FileId, at: u32, bytes: &[u8]) -> Result<(), StoreFault> {
+    fn write_at(&mut self, file: FileId, at: u32, bytes: &[u8]) -> Result<(), StoreFault>
+        ensures writes { WritesAt file at bytes.now (disk_of self.old) (disk_of self.new) result }
+        ensures refused { IfOnDisk self.old (IsErr result) }
+        ensures keeps { KeepsFiles self.old self.new }
+    {
         if self.is_in_memory {
             self.memory.write_at(file, at, bytes)
         } else {

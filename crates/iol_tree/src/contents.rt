@@ -2,6 +2,7 @@
 ghost use Rattle.std.specs.Prelude.{◌≡◌, ◌<◌, ◌≤◌, ◌+◌, length, IfOk, Some, slice_get, true};
 ghost use Rattle.iol_core.specs.declared.limits.TheConstants.{MAX_FILES};
 ghost use Rattle.iol_back.specs.Lists.{items_of};
+ghost use Rattle.iol_tree.specs.Index.{file_lengths};
 ghost use Rattle.iol_tree.specs.Store.{HaveLengths, HoldsBytes};
 
 use crate::index::Index;
@@ -16,7 +17,7 @@ use std::rt::Files;
 /// Reads the files of an index, whole. The error has the kind `OutOfMemory` if memory ran out, and `InvalidData` if a file
 /// differed from its stamp in the index before or after it was read.
 pub fn read_all<R: Files + AllocGlobal>(rt: &R, index: &Index) -> io::Result<Vec<Vec<u8>>>
-    ensures { IfOk result (λ contents. HaveLengths index.now.lengths (items_of contents.items)) }
+    ensures { IfOk result (λ read. HaveLengths (file_lengths index.now) (items_of read.items)) }
 {
     let mut contents = Vec::new(rt.alloc());
     for place in 0..index.count() {
@@ -26,9 +27,11 @@ pub fn read_all<R: Files + AllocGlobal>(rt: &R, index: &Index) -> io::Result<Vec
 }
 
 // Reads a file, whole.
+#[tactic(auto, using(crate::proofs::Lengths::length_at))]
 fn read_file<R: Files + AllocGlobal>(rt: &R, index: &Index, place: usize) -> io::Result<Vec<u8>>
     requires { place < length index.now.names }
-    ensures { IfOk result (λ bytes. slice_get index.now.lengths place ≡ Some (length bytes.items)) }
+    ensures { IfOk result (λ bytes.
+        slice_get (file_lengths index.now) place ≡ Some (length bytes.items)) }
 {
     let count = index.stamp(place).length() as usize;
     let mut bytes = vec![in rt.alloc(); 0u8; count]?;

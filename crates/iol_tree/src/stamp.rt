@@ -1,6 +1,8 @@
 //! Stamps, by which a change of a file is detected.
-ghost use Rattle.std.specs.Prelude.{◌≡◌, ◌≤◌};
+ghost use Rattle.std.specs.Prelude.{◌≡◌, ◌≤◌, ◌↔◌, IsSome, IfSome};
+ghost use Rattle.std.specs.Fs.{metadata_len};
 ghost use Rattle.iol_core.specs.declared.limits.TheConstants.{MAX_FILE_BYTES};
+ghost use Rattle.iol_tree.specs.Stamp.{IsShortFile};
 
 use iol_core::limits::MAX_FILE_BYTES;
 use std::fs;
@@ -22,7 +24,10 @@ pub struct Stamp {
 
 impl Stamp {
     /// The stamp of what was found at a path, if it is a regular file of at most 2^24 bytes.
-    pub fn of(found: &Metadata) -> Option<Stamp> {
+    pub fn of(found: &Metadata) -> Option<Stamp>
+        ensures which { IsSome result ↔ IsShortFile found.now }
+        ensures length { IfSome result (λ s. s.length ≡ metadata_len found.now) }
+    {
         if !found.is_file() || found.len() > MAX_FILE_BYTES as u64 {
             return None;
         }

@@ -1,4 +1,11 @@
 //! The names of the files below a folder.
+ghost use Rattle.std.specs.Prelude.{◌≡◌, ◌<◌, ◌++◌, [], IfOk, OnOk, codes, length, string_bytes};
+ghost use Rattle.std.specs.List.Sorted.{IsSorted};
+ghost use Rattle.std.specs.String.{string_cmp};
+ghost use Rattle.iol_core.specs.declared.limits.TheConstants.{MAX_NAME_BYTES};
+ghost use Rattle.iol_tree.specs.Index.{path_below, raised_by};
+ghost use Rattle.iol_tree.specs.Walk.{IsSkipped, TakesEntry};
+
 use iol_core::limits::MAX_NAME_BYTES;
 use std::alloc::{AllocError, Global};
 use std::io::ErrorKind;
@@ -20,7 +27,11 @@ pub struct Walk {
 }
 
 impl Walk {
-    fn new(alloc: Global) -> Walk {
+    fn new(alloc: Global) -> Walk
+        ensures names { result.names.items ≡ [] }
+        ensures skipped { result.skipped ≡ 0 }
+        ensures folders { result.folders.items ≡ [] }
+    {
         Walk {
             names: Vec::new(alloc),
             skipped: 0,
@@ -28,7 +39,9 @@ impl Walk {
         }
     }
 
-    fn skip(&mut self) {
+    fn skip(&mut self)
+        ensures { self.new ≡ record self.old { skipped = raised_by self.old.skipped 1 } }
+    {
         self.skipped = self.skipped.saturating_add(1);
     }
 
@@ -57,7 +70,10 @@ impl Walk {
         rt: &R,
         root: &str,
         name: String,
-    ) -> Result<(), AllocError> {
+    ) -> Result<(), AllocError>
+        ensures takes { OnOk result (TakesEntry (string_bytes name) self.old self.new) }
+        ensures long { MAX_NAME_BYTES < length (string_bytes name) → IsSkipped self.old self.new }
+    {
         if name.len() > MAX_NAME_BYTES {
             self.skip();
             return Ok(());
@@ -73,13 +89,22 @@ impl Walk {
 }
 
 /// A path below another: the other itself if the path is empty, and the path itself if the other is empty.
-pub fn join(alloc: Global, above: &str, below: &str) -> Result<String, AllocError> {
+pub fn join(alloc: Global, above: &str, below: &str) -> Result<String, AllocError>
+    ensures { IfOk result (λ path. string_bytes path ≡ path_below above.now below.now) }
+{
     if above.is_empty() {
         return String::from_str(alloc, below);
     }
     if below.is_empty() {
         return String::from_str(alloc, above);
     }
+    with_slash(alloc, above, below)
+}
+
+// Two paths, joined by a slash.
+fn with_slash(alloc: Global, above: &str, below: &str) -> Result<String, AllocError>
+    ensures { IfOk result (λ path. string_bytes path ≡ above.now ++ codes "/" ++ below.now) }
+{
     format!(in alloc; "{above}/{below}")
 }
 
@@ -88,6 +113,7 @@ pub fn join(alloc: Global, above: &str, below: &str) -> Result<String, AllocErro
 pub fn walk_below<R>(rt: &R, root: &str) -> io::Result<Walk>
 where
     R: Files + AllocGlobal + Clone + Drop,
+    ensures { IfOk result (λ walk. IsSorted string_cmp walk.names.items) }
 {
     let mut walk = Walk::new(rt.alloc());
     walk.read(rt, root, "")?;

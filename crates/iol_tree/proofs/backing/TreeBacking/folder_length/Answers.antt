@@ -1,6 +1,8 @@
 use Rattle.std.proofs.Common.{◌≡◌, ◌-◌, ◌<◌, ◌⊎◌, Some, slice_get, length, arith, inl, inr, sym, subst, ◌∙◌}
 use Rattle.std.proofs.lemmas.Bool.{cases_lt, cases_eq}
 use Rattle.iol_back.proofs.Contents.{reported-none, reported-some}
+use Rattle.iol_tree.specs.Index.{file_lengths}
+use Rattle.iol_tree.proofs.Lengths.{length_at}
 use Rattle.iol_tree.proofs.backing.TreeBacking.folder_length.Goals as goal
 
 pub returns-in-None : goal.returns-in-None
@@ -22,7 +24,7 @@ returns-in-None g c =
 pub returns-in-Some : goal.returns-in-Some
 returns-in-Some g c =
     let is : slice_get c.args.self.now.lengths (c.args.file - 1) ≡ Some c.stamp.result.length =
-    rw (← c.self.view_is) (subst (λ k. slice_get c.self.inside.index.lengths k ≡ Some c.stamp.result.length)
-    c.in-Some.ensures.slot.1 c.stamp.ensures) in
+    rw (← c.self.view_is) (subst (λ k. slice_get (file_lengths c.self.inside.index) k ≡ Some c.stamp.result.length)
+    c.in-Some.ensures.slot.1 (length_at c.self.inside.index.stamps c.in-Some.place c.stamp.result c.stamp.ensures)) in
     c.length.ensures.length
     ∙ sym (reported-some c.args.self.now.lengths c.args.file c.stamp.result.length c.in-Some.ensures.slot.0.0 is)
