@@ -1,8 +1,9 @@
 //! A client: its socket, and the bytes that are buffered between it and its connection of a world.
-ghost use Rattle.std.specs.Prelude.{◌≡◌, ◌≢◌, [], drop, nat_le, nat_lt, true};
+ghost use Rattle.std.specs.Prelude.{◌≡◌, ◌≢◌, ◌-◌, ◌||◌, ◌&&◌, ◌↔◌, [], drop, length, nat_le, nat_lt};
+ghost use Rattle.std.specs.Prelude.{not, IsTrue};
 ghost use Rattle.std.specs.Io.KnownBytes.{Keeps};
 ghost use Rattle.iol_reactor.specs.Bytes.{Gains, Grows, IsBegun, IsFinished, IsGiven, IsSameInput};
-ghost use Rattle.iol_reactor.specs.Bytes.{Passes, PassesSome, request_of, unsent_of};
+ghost use Rattle.iol_reactor.specs.Bytes.{Passes, PassesSome, can_read, has_room, request_of, unsent_of};
 
 use crate::input::{Input, Reading};
 use crate::output::{Output, Sending};
@@ -129,7 +130,7 @@ impl<S: Socket> Client<S> {
 
     /// Whether its socket accepted all bytes.
     pub fn is_flushed(&self) -> bool
-        ensures { result ≡ true → unsent_of self.now.output ≡ [] }
+        ensures { IsTrue result ↔ (unsent_of self.now.output ≡ []) }
     {
         self.output.is_flushed()
     }
@@ -147,17 +148,23 @@ impl<S: Socket> Client<S> {
     }
 
     /// The number of bytes that the socket accepted.
-    pub fn accepted(&self) -> u64 {
+    pub fn accepted(&self) -> u64
+        ensures { result ≡ self.now.output.accepted }
+    {
         self.output.accepted()
     }
 
     /// Whether the socket accepted no more when it was last written to.
-    pub fn is_blocked(&self) -> bool {
+    pub fn is_blocked(&self) -> bool
+        ensures { result ≡ self.now.output.is_blocked }
+    {
         self.output.is_blocked()
     }
 
     /// The time since bytes last arrived or were accepted.
-    pub fn silence(&self, now: u64) -> u64 {
+    pub fn silence(&self, now: u64) -> u64
+        ensures { result ≡ now - self.now.last }
+    {
         now.saturating_sub(self.last)
     }
 
@@ -170,6 +177,10 @@ impl<S: Socket> Client<S> {
         ensures last { self.new.is_last ≡ self.old.is_last }
         ensures whole { self.new.is_whole ≡ self.old.is_whole }
         ensures ended { self.new.input.ended ≡ self.old.input.ended }
+        ensures visits { result ≡ ((reads || ends) || (writes && self.old.output.is_blocked)) }
+        ensures blocked { self.new.output.is_blocked ≡ (self.old.output.is_blocked && not writes) }
+        ensures readable { self.new.input.readable ≡ (self.old.input.readable || reads) }
+        ensures ending { self.new.input.ending ≡ (self.old.input.ending || ends) }
     {
         self.input.note(reads, ends);
         let was_awaited = writes && self.output.unblock();
@@ -177,7 +188,9 @@ impl<S: Socket> Client<S> {
     }
 
     /// Whether a read may return bytes or the peer's end, and there is room for more bytes.
-    pub fn may_read(&self) -> bool {
+    pub fn may_read(&self) -> bool
+        ensures { result ≡ (can_read self.now.input && has_room self.now.input) }
+    {
         self.input.may_read()
     }
 
@@ -189,7 +202,10 @@ impl<S: Socket> Client<S> {
     }
 
     /// Whether no request is in progress, and there are bytes of a next one, or its end.
-    pub fn has_next(&self) -> bool {
+    pub fn has_next(&self) -> bool
+        ensures { result ≡ ((nat_lt self.now.input.asked (length self.now.input.bytes.items)
+            || (can_read self.now.input && has_room self.now.input)) || self.now.input.ended) }
+    {
         !self.input.next().is_empty() || self.input.may_read() || self.input.is_ended()
     }
 
@@ -324,12 +340,21 @@ impl<S: Socket> Client<S> {
     }
 
     /// Whether the response has begun.
-    pub fn has_begun(&self) -> bool {
+    pub fn has_begun(&self) -> bool
+        ensures { result ≡ nat_lt 0 self.now.output.produced }
+    {
         self.output.produced() > 0
     }
 
     /// The request and the response so far.
-    pub fn exchange(&self, complete: bool) -> Exchange<'_> {
+    pub fn exchange(&self, complete: bool) -> Exchange<'_>
+        ensures request { result.request.now ≡ request_of self.now.input }
+        ensures head { result.head.now ≡ self.now.output.head.items }
+        ensures produced { result.produced ≡ self.now.output.produced }
+        ensures sent { result.sent ≡ self.now.output.sent }
+        ensures complete { result.complete ≡ complete }
+        ensures peer { result.peer ≡ self.now.peer }
+    {
         Exchange {
             peer: self.peer,
             request: self.input.request(),
@@ -382,7 +407,9 @@ impl<S: Socket> Client<S> {
     }
 
     /// Whether a read may return bytes, or the peer's end.
-    pub fn is_readable(&self) -> bool {
+    pub fn is_readable(&self) -> bool
+        ensures { result ≡ can_read self.now.input }
+    {
         self.input.is_readable()
     }
 

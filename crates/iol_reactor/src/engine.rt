@@ -1,6 +1,6 @@
 //! The clients and the worlds that serve them, for all kinds of sockets.
 ghost use Rattle.std.specs.Prelude.{◌≡◌, ◌<◌, ◌≤◌, ◌-◌, [], get_or, length, max, nat_lt, None, Some, IfNone, IfOk, IfSome};
-ghost use Rattle.std.specs.Prelude.{◌&&◌, is_some, nat_le};
+ghost use Rattle.std.specs.Prelude.{◌&&◌, is_some, nat_le, option_map};
 ghost use Rattle.iol_reactor.specs.Served.{HasKnownHistory, IsEmpty};
 
 use crate::client::Client;
@@ -195,7 +195,12 @@ impl<S: Socket + Drop, B: Backing + Drop, P: Process, V: Service<B, P>> Engine<S
     }
 
     /// The socket of the client in this place.
-    pub fn socket(&self, slot: usize) -> Option<&S> {
+    pub fn socket(&self, slot: usize) -> Option<&S>
+        ensures socket { IfSome result (λ s. option_map (λ c. c.socket)
+            (get_or self.entry.now.places.clients.items slot None) ≡ Some s.now) }
+        ensures none { IfNone result
+            (get_or self.entry.now.places.clients.items slot None ≡ None) }
+    {
         match self.places.get(slot) {
             Some(client) => Some(client.socket()),
             None => None,

@@ -1,5 +1,5 @@
 //! One client's exchange with its world: its response goes to its socket.
-ghost use Rattle.std.specs.Prelude.{◌≡◌, ◌≤◌, true, false};
+ghost use Rattle.std.specs.Prelude.{◌≡◌, ◌≤◌, ◌↔◌, true, false, IsTrue};
 ghost use Rattle.iol_reactor.specs.Bytes.{unsent_of};
 ghost use Rattle.iol_reactor.specs.Connections.{link_at};
 ghost use Rattle.iol_reactor.specs.LinkVisits.{IsOver, serving};
@@ -295,8 +295,8 @@ fn end<S: Socket, B: Backing + Drop, P: Process, V: Service<B, P>>(
     service: &mut V,
     now: u64,
 )
-    ensures last { client.new.is_whole ≡ true → client.old.is_last ≡ true }
-    ensures given { client.new.is_whole ≡ true → client.old.input.asked ≤ client.old.input.given }
+    ensures whole { IsTrue client.new.is_whole ↔ (IsTrue client.old.is_last
+        × (client.old.input.asked ≤ client.old.input.given)) }
     ensures phase { client.new.phase ≡ Phase.Flushing }
     ensures socket { client.new.socket ≡ client.old.socket }
     ensures unsent { unsent_of client.new.output ≡ unsent_of client.old.output }
@@ -324,8 +324,8 @@ fn give_up<S: Socket, B: Backing + Drop, P: Process, V: Service<B, P>>(
 
 // Whether the request in progress was handed in whole, and is the last.
 fn is_done<S: Socket>(client: &Client<S>) -> bool
-    ensures last { result ≡ true → client.now.is_last ≡ true }
-    ensures given { result ≡ true → client.now.input.asked ≤ client.now.input.given }
+    ensures { IsTrue result ↔ (IsTrue client.now.is_last
+        × (client.now.input.asked ≤ client.now.input.given)) }
 {
     client.is_last() && client.is_given()
 }

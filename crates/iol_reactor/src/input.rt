@@ -1,8 +1,8 @@
 //! The bytes that a client sent and for which the world has not responded yet.
-ghost use Rattle.std.specs.Prelude.{◌≡◌, ◌≢◌, ◌≤◌, ◌++◌, [], IfSome, drop, nat_le, nat_lt};
+ghost use Rattle.std.specs.Prelude.{◌≡◌, ◌≢◌, ◌≤◌, ◌++◌, ◌||◌, ◌&&◌, [], IfSome, drop, false, nat_le, nat_lt};
 ghost use Rattle.std.specs.Io.KnownBytes.{Keeps};
 ghost use Rattle.iol_reactor.specs.Bytes.{Gains, Grows, IsBegun, IsFinished, IsGiven, IsSameInput};
-ghost use Rattle.iol_reactor.specs.Bytes.{request_of};
+ghost use Rattle.iol_reactor.specs.Bytes.{can_read, has_room, request_of};
 
 use crate::limits::{MAX_BUFFERED, MIN_READ_BYTES};
 use crate::socket::Socket;
@@ -55,6 +55,9 @@ impl Input {
         ensures bytes { result.bytes.items ≡ [] }
         ensures asked { result.asked ≡ 0 }
         ensures given { result.given ≡ 0 }
+        ensures readable { result.readable ≡ false }
+        ensures ending { result.ending ≡ false }
+        ensures ended { result.ended ≡ false }
     {
         Input {
             alloc,
@@ -71,6 +74,8 @@ impl Input {
     pub fn note(&mut self, reads: bool, ends: bool)
         ensures same { IsSameInput self.old self.new }
         ensures ended { self.new.ended ≡ self.old.ended }
+        ensures readable { self.new.readable ≡ (self.old.readable || reads) }
+        ensures ending { self.new.ending ≡ (self.old.ending || ends) }
     {
         self.readable |= reads;
         self.ending |= ends;
@@ -84,12 +89,16 @@ impl Input {
     }
 
     /// Whether a read may return bytes, or the peer's end.
-    pub fn is_readable(&self) -> bool {
+    pub fn is_readable(&self) -> bool
+        ensures { result ≡ can_read self.now }
+    {
         (self.readable || self.ending) && !self.ended
     }
 
     /// The same, if there is room for more bytes.
-    pub fn may_read(&self) -> bool {
+    pub fn may_read(&self) -> bool
+        ensures { result ≡ (can_read self.now && has_room self.now) }
+    {
         self.is_readable() && self.bytes.len() < MAX_BUFFERED
     }
 

@@ -1,5 +1,5 @@
 //! Bytes of a connection that are sent together.
-ghost use Rattle.std.specs.Prelude.{◌≡◌, []};
+ghost use Rattle.std.specs.Prelude.{◌≡◌, [], IfOk};
 
 use std::alloc::{AllocError, Global};
 use std::io;
@@ -14,7 +14,10 @@ pub struct Outbox {
 }
 
 impl Outbox {
-    pub fn new(alloc: Global, most: usize) -> Result<Outbox, AllocError> {
+    pub fn new(alloc: Global, most: usize) -> Result<Outbox, AllocError>
+        ensures most { IfOk result (λ outbox. outbox.most ≡ most) }
+        ensures empty { IfOk result (λ outbox. outbox.bytes.items ≡ []) }
+    {
         let bytes = Vec::with_capacity(alloc, most)?;
         Ok(Outbox { bytes, most })
     }

@@ -1,5 +1,5 @@
 //! The bytes of a response that the world sent and that a client has not accepted yet.
-ghost use Rattle.std.specs.Prelude.{◌≡◌, ◌≢◌, ◌≤◌, [], length, true, ◌++◌, take};
+ghost use Rattle.std.specs.Prelude.{◌≡◌, ◌≢◌, ◌≤◌, ◌++◌, ◌↔◌, [], length, take, true, false, IsTrue};
 ghost use Rattle.std.specs.Io.KnownBytes.{Appends, Keeps};
 ghost use Rattle.iol_reactor.specs.Bytes.{Passes, PassesSome, unsent_of};
 
@@ -65,13 +65,17 @@ impl Output {
     }
 
     /// Whether the socket accepted no more when it was last written to.
-    pub fn is_blocked(&self) -> bool {
+    pub fn is_blocked(&self) -> bool
+        ensures { result ≡ self.now.is_blocked }
+    {
         self.is_blocked
     }
 
     /// The socket was reported writable: whether that was awaited.
     pub fn unblock(&mut self) -> bool
-        ensures { unsent_of self.new ≡ unsent_of self.old }
+        ensures unsent { unsent_of self.new ≡ unsent_of self.old }
+        ensures awaited { result ≡ self.old.is_blocked }
+        ensures blocked { self.new.is_blocked ≡ false }
     {
         let was_blocked = self.is_blocked;
         self.is_blocked = false;
@@ -80,13 +84,15 @@ impl Output {
 
     /// Whether the socket accepted all bytes.
     pub fn is_flushed(&self) -> bool
-        ensures { result ≡ true → unsent_of self.now ≡ [] }
+        ensures { IsTrue result ↔ (unsent_of self.now ≡ []) }
     {
         self.at >= self.left.len()
     }
 
     /// The first bytes of the response.
-    pub fn head(&self) -> &[u8] {
+    pub fn head(&self) -> &[u8]
+        ensures { result.now ≡ self.now.head.items }
+    {
         &self.head
     }
 
@@ -97,23 +103,34 @@ impl Output {
     }
 
     /// The number of bytes of the response that the world sent.
-    pub fn produced(&self) -> u64 {
+    pub fn produced(&self) -> u64
+        ensures { result ≡ self.now.produced }
+    {
         self.produced
     }
 
     /// The number of bytes of the response that the socket accepted.
-    pub fn sent(&self) -> u64 {
+    pub fn sent(&self) -> u64
+        ensures { result ≡ self.now.sent }
+    {
         self.sent
     }
 
     /// The number of bytes of all responses that the socket accepted.
-    pub fn accepted(&self) -> u64 {
+    pub fn accepted(&self) -> u64
+        ensures { result ≡ self.now.accepted }
+    {
         self.accepted
     }
 
     /// A new response begins.
     pub fn begin(&mut self)
-        ensures { unsent_of self.new ≡ unsent_of self.old }
+        ensures unsent { unsent_of self.new ≡ unsent_of self.old }
+        ensures head { self.new.head.items ≡ [] }
+        ensures produced { self.new.produced ≡ 0 }
+        ensures sent { self.new.sent ≡ 0 }
+        ensures accepted { self.new.accepted ≡ self.old.accepted }
+        ensures blocked { self.new.is_blocked ≡ self.old.is_blocked }
     {
         self.head.clear();
         self.produced = 0;
@@ -126,6 +143,7 @@ impl Output {
             (unsent_of self.old) (unsent_of self.new) }
         ensures all { result ≡ Sending.All → unsent_of self.new ≡ [] }
         ensures came { Keeps (S.supplied socket.old) (S.supplied socket.new) }
+        ensures blocked { IsTrue self.new.is_blocked ↔ (result ≡ Sending.Blocked) }
     {
         let waiting = &self.left[self.at.min(self.left.len())..];
         let count = waiting.len();
@@ -179,6 +197,8 @@ impl Output {
             (S.accepted socket.new) bytes.now (unsent_of self.new) }
         ensures some { PassesSome (S.accepted socket.old) (S.accepted socket.new) bytes.now }
         ensures came { Keeps (S.supplied socket.old) (S.supplied socket.new) }
+        ensures all { result ≡ Sending.All → (unsent_of self.new ≡ []) × (self.new.is_blocked ≡ false) }
+        ensures blocked { result ≡ Sending.Blocked → self.new.is_blocked ≡ true }
     {
         if self.show(bytes).is_err() {
             return Sending::Failed;

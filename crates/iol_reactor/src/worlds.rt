@@ -1,7 +1,7 @@
 //! The world for new requests, and the one in which earlier requests finish.
 ghost use Rattle.std.specs.Prelude.{◌≡◌, Bool, ◌++◌, ◌∷◌, ◌+◌, ◌==◌, List, ℕ, [], None, Some, true};
 ghost use Rattle.std.specs.Prelude.{false, IfSome, IsNone, is_some, set, OnErr, OnOk, length, ◌<◌, not, count_by, ◌≢◌};
-ghost use Rattle.std.specs.Prelude.{if◌then◌else◌, min, ◌^◌, ◌-◌};
+ghost use Rattle.std.specs.Prelude.{if◌then◌else◌, min, ◌^◌, ◌-◌, ◌↔◌};
 ghost use Rattle.std.specs.Io.KnownBytes.{Appends};
 ghost use Rattle.iol_core.specs.declared.descriptors.How.TheVariants as how;
 ghost use Rattle.iol_proc.specs.World.{copied};
@@ -468,7 +468,9 @@ impl<B: Backing + Drop, P: Process, V: Service<B, P>> Worlds<B, P, V> {
 
 // How the output of a connection was offered. None: it was closed.
 fn offered_of(drained: Option<Drained>) -> Offered
-    ensures { result ≡ Offered.Closed → IsNone drained }
+    ensures closed { (result ≡ Offered.Closed) ↔ IsNone drained }
+    ensures taken { IfSome drained (λ d. result ≡
+        (if d.failed then Offered.Part d.taken else Offered.All d.taken)) }
 {
     match drained {
         Some(drained) if drained.failed => Offered::Part(drained.taken),
@@ -479,7 +481,8 @@ fn offered_of(drained: Option<Drained>) -> Offered
 
 // How the output of a connection was collected. None: it was closed.
 fn outcome_of(taken: Option<u32>) -> Collected
-    ensures { result ≡ Collected.Closed → IsNone taken }
+    ensures closed { (result ≡ Collected.Closed) ↔ IsNone taken }
+    ensures bytes { IfSome taken (λ count. result ≡ Collected.Bytes count) }
 {
     match taken {
         Some(count) => Collected::Bytes(count),
