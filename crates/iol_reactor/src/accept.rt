@@ -1,6 +1,6 @@
 //! The clients that are accepted.
 ghost use Rattle.std.specs.Prelude.{◌≡◌, ◌≢◌, ◌+◌, ◌-◌, ◌^◌, ◌||◌, ◌↔◌, ℕ, Option, Some, None};
-ghost use Rattle.std.specs.Prelude.{true, false, min, if◌then◌else◌, IsTrue};
+ghost use Rattle.std.specs.Prelude.{true, false, min, if◌then◌else◌, IfNone, IfSome, IsTrue};
 ghost use Rattle.iol_reactor.specs.Accepting.{Counts, Falls, StaysWithin, is_due};
 
 use crate::limits::ACCEPT_MILLIS;
@@ -131,8 +131,12 @@ impl<L> Acceptor<L> {
     pub fn accept<S>(&mut self, now: u64) -> Option<(S, SocketAddr)>
     where
         L: Listener<S>,
-        ensures { StaysWithin (L.given self.old.listener) self.old.left
+        ensures within { StaysWithin (L.given self.old.listener) self.old.left
             (L.given self.new.listener) self.new.left }
+        ensures counts { IfSome result (λ client. Falls self.old.left self.new.left) }
+        ensures none { IfNone result (self.new.left ≡ self.old.left) }
+        ensures closed { self.old.is_open ≡ false → (result ≡ None) × (self.new ≡ self.old) }
+        ensures exhausted { self.old.left ≡ Some 0 → (result ≡ None) × (self.new ≡ self.old) }
     {
         if !self.is_open() {
             return None;
@@ -164,6 +168,15 @@ impl<L> Acceptor<L> {
     fn refuse(&mut self, kind: ErrorKind, now: u64)
         ensures listener { self.new.listener ≡ self.old.listener }
         ensures left { self.new.left ≡ self.old.left }
+        ensures aborted { kind ≡ ErrorKind.ConnectionAborted → self.new ≡ self.old }
+        ensures interrupted { kind ≡ ErrorKind.Interrupted → self.new ≡ self.old }
+        ensures empty { kind ≡ ErrorKind.WouldBlock → self.new ≡ record self.old { is_open = false } }
+        ensures fails { kind ≢ ErrorKind.ConnectionAborted → kind ≢ ErrorKind.Interrupted →
+            kind ≢ ErrorKind.WouldBlock → self.new ≡ record self.old {
+              is_open = false;
+              open_at = Some (min (now + ACCEPT_MILLIS) (2 ^ 64 - 1));
+              failure = Some kind;
+            } }
     {
         match kind {
             ErrorKind::ConnectionAborted | ErrorKind::Interrupted => {}

@@ -1,5 +1,6 @@
 //! The bytes that a client sent and for which the world has not responded yet.
-ghost use Rattle.std.specs.Prelude.{◌≡◌, ◌≢◌, ◌≤◌, ◌++◌, ◌||◌, ◌&&◌, [], IfSome, drop, false, nat_le, nat_lt};
+ghost use Rattle.std.specs.Prelude.{◌≡◌, ◌≢◌, ◌≤◌, ◌++◌, ◌||◌, ◌&&◌, [], IfSome, drop, nat_le, nat_lt};
+ghost use Rattle.std.specs.Prelude.{if◌then◌else◌, length, true, false};
 ghost use Rattle.std.specs.Io.KnownBytes.{Keeps};
 ghost use Rattle.iol_reactor.specs.Bytes.{Gains, Grows, IsBegun, IsFinished, IsGiven, IsSameInput};
 ghost use Rattle.iol_reactor.specs.Bytes.{can_read, has_room, request_of};
@@ -110,6 +111,9 @@ impl Input {
         ensures sent { Keeps (S.accepted socket.old) (S.accepted socket.new) }
         ensures asked { self.new.asked ≡ self.old.asked }
         ensures given { self.new.given ≡ self.old.given }
+        ensures end { result ≡ Reading.End → self.new.ended ≡ true }
+        ensures ended { result ≢ Reading.End → self.new.ended ≡ self.old.ended }
+        ensures empty { result ≡ Reading.Empty → can_read self.new ≡ false }
     {
         match self.room(piece.len()) {
             Some(room) => self.read_most(socket, &mut piece[..room]),
@@ -120,6 +124,9 @@ impl Input {
     // The number of bytes, at most this, for which there is memory after those that are buffered.
     fn room(&mut self, most: usize) -> Option<usize>
         ensures same { IsSameInput self.old self.new }
+        ensures readable { self.new.readable ≡ self.old.readable }
+        ensures ending { self.new.ending ≡ self.old.ending }
+        ensures ended { self.new.ended ≡ self.old.ended }
         ensures most { IfSome result (λ n. n ≤ most) }
     {
         if self.bytes.reserve(MIN_READ_BYTES).is_err() {
@@ -137,6 +144,9 @@ impl Input {
         ensures sent { Keeps (S.accepted socket.old) (S.accepted socket.new) }
         ensures asked { self.new.asked ≡ self.old.asked }
         ensures given { self.new.given ≡ self.old.given }
+        ensures end { result ≡ Reading.End → self.new.ended ≡ true }
+        ensures ended { result ≢ Reading.End → self.new.ended ≡ self.old.ended }
+        ensures empty { result ≡ Reading.Empty → can_read self.new ≡ false }
     {
         let room = piece.len();
         match socket.receive(piece) {
@@ -160,6 +170,8 @@ impl Input {
         ensures same { IsSameInput self.old self.new }
         ensures came { Grows (S.supplied socket.old) (S.supplied socket.new) }
         ensures sent { Keeps (S.accepted socket.old) (S.accepted socket.new) }
+        ensures ended { self.new.ended ≡ self.old.ended }
+        ensures empty { result ≡ Reading.Empty → can_read self.new ≡ false }
     {
         match socket.receive(piece) {
             Ok(0) => Reading::End,
@@ -179,8 +191,14 @@ impl Input {
     fn append(&mut self, bytes: &[u8], room: usize) -> Reading
         ensures bytes { result ≢ Reading.Failed →
             self.new.bytes.items ≡ self.old.bytes.items ++ bytes.now }
+        ensures end { result ≢ Reading.End }
+        ensures empty { result ≢ Reading.Empty }
         ensures asked { self.new.asked ≡ self.old.asked }
         ensures given { self.new.given ≡ self.old.given }
+        ensures readable { self.new.readable ≡
+            (if nat_lt (length bytes.now) room then self.old.ending else self.old.readable) }
+        ensures ending { self.new.ending ≡ self.old.ending }
+        ensures ended { self.new.ended ≡ self.old.ended }
     {
         if bytes.len() < room {
             self.readable = self.ending;
