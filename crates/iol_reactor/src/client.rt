@@ -1,6 +1,6 @@
 //! A client: its socket, and the bytes that are buffered between it and its connection of a world.
 ghost use Rattle.std.specs.Prelude.{◌≡◌, ◌≢◌, ◌-◌, ◌||◌, ◌&&◌, ◌↔◌, [], drop, length, nat_le, nat_lt};
-ghost use Rattle.std.specs.Prelude.{not, IsTrue};
+ghost use Rattle.std.specs.Prelude.{◌+◌, ◌^◌, ℕ, false, if◌then◌else◌, min, not, true, IsTrue};
 ghost use Rattle.std.specs.Io.KnownBytes.{Keeps};
 ghost use Rattle.iol_reactor.specs.Bytes.{Gains, Grows, IsBegun, IsFinished, IsGiven, IsSameInput};
 ghost use Rattle.iol_reactor.specs.Bytes.{Passes, PassesSome, can_read, has_room, request_of, unsent_of};
@@ -72,6 +72,10 @@ impl<S: Socket> Client<S> {
         ensures asked { result.input.asked ≡ 0 }
         ensures given { result.input.given ≡ 0 }
         ensures unsent { unsent_of result.output ≡ [] }
+        ensures last { result.is_last ≡ false }
+        ensures whole { result.is_whole ≡ false }
+        ensures peer { result.peer ≡ peer }
+        ensures time { result.last ≡ now }
     {
         Client {
             socket,
@@ -104,6 +108,7 @@ impl<S: Socket> Client<S> {
         ensures output { self.new.output ≡ self.old.output }
         ensures last { self.new.is_last ≡ self.old.is_last }
         ensures whole { self.new.is_whole ≡ self.old.is_whole }
+        ensures time { self.new.last ≡ self.old.last }
     {
         self.phase = phase;
     }
@@ -116,6 +121,7 @@ impl<S: Socket> Client<S> {
         ensures socket { self.new.socket ≡ self.old.socket }
         ensures input { self.new.input ≡ self.old.input }
         ensures output { self.new.output ≡ self.old.output }
+        ensures time { self.new.last ≡ self.old.last }
     {
         self.phase = Phase::Flushing;
         self.is_whole = is_whole;
@@ -143,6 +149,7 @@ impl<S: Socket> Client<S> {
         ensures output { self.new.output ≡ self.old.output }
         ensures last { self.new.is_last ≡ self.old.is_last }
         ensures whole { self.new.is_whole ≡ self.old.is_whole }
+        ensures time { self.new.last ≡ self.old.last }
     {
         self.input.give(left);
     }
@@ -181,6 +188,7 @@ impl<S: Socket> Client<S> {
         ensures blocked { self.new.output.is_blocked ≡ (self.old.output.is_blocked && not writes) }
         ensures readable { self.new.input.readable ≡ (self.old.input.readable || reads) }
         ensures ending { self.new.input.ending ≡ (self.old.input.ending || ends) }
+        ensures time { self.new.last ≡ self.old.last }
     {
         self.input.note(reads, ends);
         let was_awaited = writes && self.output.unblock();
@@ -221,6 +229,11 @@ impl<S: Socket> Client<S> {
         ensures output { self.new.output ≡ self.old.output }
         ensures last { self.new.is_last ≡ self.old.is_last }
         ensures whole { self.new.is_whole ≡ self.old.is_whole }
+        ensures time { (n : ℕ) → result ≡ Reading.Bytes n → self.new.last ≡ now }
+        ensures silent { ((n : ℕ) → result ≢ Reading.Bytes n) → self.new.last ≡ self.old.last }
+        ensures end { result ≡ Reading.End → self.new.input.ended ≡ true }
+        ensures ended { result ≢ Reading.End → self.new.input.ended ≡ self.old.input.ended }
+        ensures empty { result ≡ Reading.Empty → can_read self.new.input ≡ false }
     {
         let reading = self.input.read_from(&mut self.socket, piece);
         if matches!(reading, Reading::Bytes(_)) {
@@ -245,6 +258,7 @@ impl<S: Socket> Client<S> {
         ensures socket { self.new.socket ≡ self.old.socket }
         ensures phase { self.new.phase ≡ Phase.Answering }
         ensures whole { self.new.is_whole ≡ self.old.is_whole }
+        ensures time { self.new.last ≡ self.old.last }
     {
         self.phase = Phase::Answering;
         self.input.begin(size);
@@ -276,6 +290,11 @@ impl<S: Socket> Client<S> {
         ensures input { self.new.input ≡ self.old.input }
         ensures last { self.new.is_last ≡ self.old.is_last }
         ensures whole { self.new.is_whole ≡ self.old.is_whole }
+        ensures time { self.new.last ≡ (if nat_lt self.old.output.accepted
+            self.new.output.accepted then now else self.old.last) }
+        ensures accepted { self.new.output.accepted ≡ min (self.old.output.accepted
+            + (length (unsent_of self.old.output) - length (unsent_of self.new.output))) (2 ^ 64 - 1) }
+        ensures blocked { IsTrue self.new.output.is_blocked ↔ (result ≡ Sending.Blocked) }
     {
         let before = self.output.accepted();
         let sending = self.output.flush(&mut self.socket);
@@ -296,6 +315,7 @@ impl<S: Socket> Client<S> {
         ensures input { self.new.input ≡ self.old.input }
         ensures last { self.new.is_last ≡ self.old.is_last }
         ensures whole { self.new.is_whole ≡ self.old.is_whole }
+        ensures time { self.new.last ≡ now }
     {
         self.last = now;
         self.output.send(&mut self.socket, bytes)
@@ -309,6 +329,7 @@ impl<S: Socket> Client<S> {
         ensures input { self.new.input ≡ self.old.input }
         ensures last { self.new.is_last ≡ self.old.is_last }
         ensures whole { self.new.is_whole ≡ self.old.is_whole }
+        ensures time { self.new.last ≡ now }
     {
         self.last = now;
     }
@@ -323,6 +344,7 @@ impl<S: Socket> Client<S> {
         ensures input { self.new.input ≡ self.old.input }
         ensures last { self.new.is_last ≡ self.old.is_last }
         ensures whole { self.new.is_whole ≡ self.old.is_whole }
+        ensures time { self.new.last ≡ self.old.last }
     {
         self.output.room()
     }
@@ -335,6 +357,7 @@ impl<S: Socket> Client<S> {
         ensures input { self.new.input ≡ self.old.input }
         ensures last { self.new.is_last ≡ self.old.is_last }
         ensures whole { self.new.is_whole ≡ self.old.is_whole }
+        ensures time { self.new.last ≡ self.old.last }
     {
         self.output.release();
     }
@@ -388,6 +411,7 @@ impl<S: Socket> Client<S> {
         ensures output { self.new.output ≡ self.old.output }
         ensures last { self.new.is_last ≡ self.old.is_last }
         ensures whole { self.new.is_whole ≡ self.old.is_whole }
+        ensures time { self.new.last ≡ now }
     {
         self.input.finish();
         self.last = now;
@@ -402,6 +426,7 @@ impl<S: Socket> Client<S> {
         ensures output { self.new.output ≡ self.old.output }
         ensures last { self.new.is_last ≡ self.old.is_last }
         ensures whole { self.new.is_whole ≡ self.old.is_whole }
+        ensures time { self.new.last ≡ self.old.last }
     {
         self.socket.end_output().is_ok()
     }
@@ -422,6 +447,9 @@ impl<S: Socket> Client<S> {
         ensures phase { self.new.phase ≡ self.old.phase }
         ensures output { self.new.output ≡ self.old.output }
         ensures whole { self.new.is_whole ≡ self.old.is_whole }
+        ensures time { self.new.last ≡ self.old.last }
+        ensures ended { self.new.input.ended ≡ self.old.input.ended }
+        ensures last { self.new.is_last ≡ self.old.is_last }
     {
         if !self.input.is_readable() {
             return false;

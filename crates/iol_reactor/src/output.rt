@@ -144,6 +144,10 @@ impl Output {
             (unsent_of self.old) (unsent_of self.new) }
         ensures all { result ≡ Sending.All → unsent_of self.new ≡ [] }
         ensures came { Keeps (S.supplied socket.old) (S.supplied socket.new) }
+        ensures sent { self.new.sent ≡ min (self.old.sent + (length (unsent_of self.old)
+            - length (unsent_of self.new))) (2 ^ 64 - 1) }
+        ensures accepted { self.new.accepted ≡ min (self.old.accepted
+            + (length (unsent_of self.old) - length (unsent_of self.new))) (2 ^ 64 - 1) }
         ensures blocked { IsTrue self.new.is_blocked ↔ (result ≡ Sending.Blocked) }
     {
         let waiting = &self.left[self.at.min(self.left.len())..];
@@ -199,7 +203,12 @@ impl Output {
             (S.accepted socket.new) bytes.now (unsent_of self.new) }
         ensures some { PassesSome (S.accepted socket.old) (S.accepted socket.new) bytes.now }
         ensures came { Keeps (S.supplied socket.old) (S.supplied socket.new) }
-        ensures all { result ≡ Sending.All → (unsent_of self.new ≡ []) × (self.new.is_blocked ≡ false) }
+        ensures all { result ≡ Sending.All → unsent_of self.new ≡ [] }
+        ensures sent { result ≢ Sending.Failed → self.new.sent ≡ min (self.old.sent
+            + (length bytes.now - length (unsent_of self.new))) (2 ^ 64 - 1) }
+        ensures accepted { result ≢ Sending.Failed → self.new.accepted ≡ min (self.old.accepted
+            + (length bytes.now - length (unsent_of self.new))) (2 ^ 64 - 1) }
+        ensures free { result ≡ Sending.All → self.new.is_blocked ≡ false }
         ensures blocked { result ≡ Sending.Blocked → self.new.is_blocked ≡ true }
     {
         if self.show(bytes).is_err() {
