@@ -78,9 +78,9 @@ rest_then bytes more rest a b =
 -- no byte is left from an index on
 pub all_dropped : (left : List ℕ) (at count : ℕ) → count ≡ length left → IsTrue (nat_le count at) ↔ (drop at left ≡ [])
 all_dropped left at count counted = (
-      λ past. drop_of_length-le left (omega (arith, leb-true count at past, counted)),
-      λ none. le-leb count at (omega (arith, sym (length-drop at left) ∙ ap length none, counted)),
-    )
+  λ past. drop_of_length-le left (omega (arith, leb-true count at past, counted)),
+  λ none. le-leb count at (omega (arith, sym (length-drop at left) ∙ ap length none, counted)),
+)
 
 -- the bytes from an index on were passed to the socket, which accepted the first of them
 pub passes_from : (held now : Option (List ℕ)) (left rest : List ℕ) (at start accepted new most : ℕ)

@@ -170,7 +170,8 @@ impl<L> Acceptor<L> {
         ensures left { self.new.left ≡ self.old.left }
         ensures aborted { kind ≡ ErrorKind.ConnectionAborted → self.new ≡ self.old }
         ensures interrupted { kind ≡ ErrorKind.Interrupted → self.new ≡ self.old }
-        ensures empty { kind ≡ ErrorKind.WouldBlock → self.new ≡ record self.old { is_open = false } }
+        ensures empty { kind ≡ ErrorKind.WouldBlock →
+            self.new ≡ record self.old { is_open = false } }
         ensures fails { kind ≢ ErrorKind.ConnectionAborted → kind ≢ ErrorKind.Interrupted →
             kind ≢ ErrorKind.WouldBlock → self.new ≡ record self.old {
               is_open = false;

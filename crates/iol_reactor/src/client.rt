@@ -1,9 +1,10 @@
 //! A client: its socket, and the bytes that are buffered between it and its connection of a world.
-ghost use Rattle.std.specs.Prelude.{◌≡◌, ◌≢◌, ◌-◌, ◌||◌, ◌&&◌, ◌↔◌, [], drop, length, nat_le, nat_lt};
-ghost use Rattle.std.specs.Prelude.{◌+◌, ◌^◌, ℕ, false, if◌then◌else◌, min, not, true, IsTrue};
+ghost use Rattle.std.specs.Prelude.{◌≡◌, ◌≢◌, ◌+◌, ◌-◌, ◌^◌, ◌||◌, ◌&&◌, ◌↔◌, ℕ, [], drop, length};
+ghost use Rattle.std.specs.Prelude.{if◌then◌else◌, min, nat_le, nat_lt, not, true, false, IsTrue};
 ghost use Rattle.std.specs.Io.KnownBytes.{Keeps};
 ghost use Rattle.iol_reactor.specs.Bytes.{Gains, Grows, IsBegun, IsFinished, IsGiven, IsSameInput};
-ghost use Rattle.iol_reactor.specs.Bytes.{Passes, PassesSome, can_read, has_room, request_of, unsent_of};
+ghost use Rattle.iol_reactor.specs.Bytes.{Passes, PassesSome, request_of, unsent_of};
+ghost use Rattle.iol_reactor.specs.Bytes.{can_read, has_room};
 
 use crate::input::{Input, Reading};
 use crate::output::{Output, Sending};
@@ -293,7 +294,8 @@ impl<S: Socket> Client<S> {
         ensures time { self.new.last ≡ (if nat_lt self.old.output.accepted
             self.new.output.accepted then now else self.old.last) }
         ensures accepted { self.new.output.accepted ≡ min (self.old.output.accepted
-            + (length (unsent_of self.old.output) - length (unsent_of self.new.output))) (2 ^ 64 - 1) }
+            + (length (unsent_of self.old.output) - length (unsent_of self.new.output)))
+            (2 ^ 64 - 1) }
         ensures blocked { IsTrue self.new.output.is_blocked ↔ (result ≡ Sending.Blocked) }
     {
         let before = self.output.accepted();

@@ -3,7 +3,7 @@ ghost use Rattle.std.specs.Prelude.{◌≡◌, ◌≤◌, ◌↔◌, true, false
 ghost use Rattle.iol_reactor.specs.Bytes.{unsent_of};
 ghost use Rattle.iol_reactor.specs.Connections.{link_at};
 ghost use Rattle.iol_reactor.specs.LinkVisits.{IsOver, serving};
-ghost use Rattle.iol_reactor.specs.Served.{IsCompleted};
+ghost use Rattle.iol_reactor.specs.Served.{IsCompleted, OthersStay};
 
 use crate::client::{Client, Phase};
 use crate::outbox::Outbox;
@@ -52,7 +52,9 @@ impl<S: Socket + Drop, B: Backing + Drop, P: Process, V: Service<B, P>> Places<S
         slot: usize,
         service: &mut V,
         moment: Moment,
-    ) -> Step {
+    ) -> Step
+        ensures others { OthersStay slot self.old.clients.items self.new.clients.items }
+    {
         match self.flush(slot, moment.now) {
             Sending::All => {}
             Sending::Blocked => return Step::Rests,
@@ -69,7 +71,9 @@ impl<S: Socket + Drop, B: Backing + Drop, P: Process, V: Service<B, P>> Places<S
     }
 
     // The socket of the client in this place has accepted all that the world sent so far.
-    fn after_all(&mut self, slot: usize, service: &mut V, moment: Moment) -> Step {
+    fn after_all(&mut self, slot: usize, service: &mut V, moment: Moment) -> Step
+        ensures others { OthersStay slot self.old.clients.items self.new.clients.items }
+    {
         if self.is_over(slot) {
             return self.ended(slot, service, moment.now);
         }
@@ -81,7 +85,10 @@ impl<S: Socket + Drop, B: Backing + Drop, P: Process, V: Service<B, P>> Places<S
 
     // If the response of the client in this place was sent whole, the client is idle, and its next
     // request may be handed in.
-    fn complete(&mut self, slot: usize, service: &mut V, moment: Moment) -> bool {
+    fn complete(&mut self, slot: usize, service: &mut V, moment: Moment) -> bool
+        ensures others { OthersStay slot self.old.clients.items self.new.clients.items }
+        ensures worlds { self.new.worlds ≡ self.old.worlds }
+    {
         if slot >= self.clients.len() {
             return false;
         }
@@ -105,6 +112,7 @@ impl<S: Socket + Drop, B: Backing + Drop, P: Process, V: Service<B, P>> Places<S
         requires { IsOver (link_at self.old.worlds.links.table.items slot)
             (serving self.old.worlds.links.generation self.old.worlds.current.world
             (λ h. h.world) self.old.worlds.retiring) }
+        ensures others { OthersStay slot self.old.clients.items self.new.clients.items }
     {
         match self.phase(slot) {
             Phase::Leaving => {
@@ -123,6 +131,7 @@ impl<S: Socket + Drop, B: Backing + Drop, P: Process, V: Service<B, P>> Places<S
         requires { IsOver (link_at self.old.worlds.links.table.items slot)
             (serving self.old.worlds.links.generation self.old.worlds.current.world
             (λ h. h.world) self.old.worlds.retiring) }
+        ensures others { OthersStay slot self.old.clients.items self.new.clients.items }
     {
         if slot >= self.clients.len() {
             return;
@@ -146,6 +155,7 @@ impl<S: Socket + Drop, B: Backing + Drop, P: Process, V: Service<B, P>> Places<S
         requires { IsOver (link_at self.old.worlds.links.table.items slot)
             (serving self.old.worlds.links.generation self.old.worlds.current.world
             (λ h. h.world) self.old.worlds.retiring) }
+        ensures others { OthersStay slot self.old.clients.items self.new.clients.items }
     {
         if slot >= self.clients.len() {
             return;
@@ -164,7 +174,9 @@ impl<S: Socket + Drop, B: Backing + Drop, P: Process, V: Service<B, P>> Places<S
 
     /// The socket of the client in this place failed, or the client broke a limit: nothing more is
     /// handed in or sent.
-    pub fn abandon(&mut self, slot: usize, service: &mut V) -> Step {
+    pub fn abandon(&mut self, slot: usize, service: &mut V) -> Step
+        ensures others { OthersStay slot self.old.clients.items self.new.clients.items }
+    {
         self.give_up(slot, service);
         self.hang_up(slot);
         self.release(slot);
@@ -172,7 +184,10 @@ impl<S: Socket + Drop, B: Backing + Drop, P: Process, V: Service<B, P>> Places<S
     }
 
     // The client in this place is over.
-    fn give_up(&mut self, slot: usize, service: &mut V) {
+    fn give_up(&mut self, slot: usize, service: &mut V)
+        ensures others { OthersStay slot self.old.clients.items self.new.clients.items }
+        ensures worlds { self.new.worlds ≡ self.old.worlds }
+    {
         if slot >= self.clients.len() {
             return;
         }
@@ -183,7 +198,9 @@ impl<S: Socket + Drop, B: Backing + Drop, P: Process, V: Service<B, P>> Places<S
     }
 
     // Reports to the processes that the client in this place, which is over, is gone.
-    fn hang_up(&mut self, slot: usize) {
+    fn hang_up(&mut self, slot: usize)
+        ensures clients { self.new.clients ≡ self.old.clients }
+    {
         match self.phase(slot) {
             Phase::Over => self.worlds.hang_up(slot),
             _ => {}
@@ -191,7 +208,9 @@ impl<S: Socket + Drop, B: Backing + Drop, P: Process, V: Service<B, P>> Places<S
     }
 
     // The client in this place, which is over, gives up its connection.
-    fn release(&mut self, slot: usize) {
+    fn release(&mut self, slot: usize)
+        ensures clients { self.new.clients ≡ self.old.clients }
+    {
         match self.phase(slot) {
             Phase::Over => self.worlds.release(slot),
             _ => {}
@@ -200,7 +219,10 @@ impl<S: Socket + Drop, B: Backing + Drop, P: Process, V: Service<B, P>> Places<S
 
     /// The client in this place, which has no connection, ends: the rest is sent, its output is
     /// ended, and its peer's end is awaited.
-    pub fn close(&mut self, slot: usize, piece: &mut [u8], now: u64) -> Step {
+    pub fn close(&mut self, slot: usize, piece: &mut [u8], now: u64) -> Step
+        ensures others { OthersStay slot self.old.clients.items self.new.clients.items }
+        ensures worlds { self.new.worlds ≡ self.old.worlds }
+    {
         match self.flush(slot, now) {
             Sending::All => {}
             Sending::Blocked => return Step::Rests,
@@ -213,7 +235,10 @@ impl<S: Socket + Drop, B: Backing + Drop, P: Process, V: Service<B, P>> Places<S
     }
 
     // Ends the output of the client in this place, once, if all was sent. False: the socket failed.
-    fn end_output(&mut self, slot: usize) -> bool {
+    fn end_output(&mut self, slot: usize) -> bool
+        ensures others { OthersStay slot self.old.clients.items self.new.clients.items }
+        ensures worlds { self.new.worlds ≡ self.old.worlds }
+    {
         if slot >= self.clients.len() {
             return true;
         }
@@ -233,7 +258,10 @@ impl<S: Socket + Drop, B: Backing + Drop, P: Process, V: Service<B, P>> Places<S
     }
 
     // Awaits the peer's end of the client in this place, whose output was ended.
-    fn drain(&mut self, slot: usize, piece: &mut [u8]) -> Step {
+    fn drain(&mut self, slot: usize, piece: &mut [u8]) -> Step
+        ensures others { OthersStay slot self.old.clients.items self.new.clients.items }
+        ensures worlds { self.new.worlds ≡ self.old.worlds }
+    {
         if self.drop_input(slot, piece) {
             return Step::Over;
         }
@@ -245,7 +273,10 @@ impl<S: Socket + Drop, B: Backing + Drop, P: Process, V: Service<B, P>> Places<S
 
     // Drops input of the client in this place, whose output was ended. True: its peer's end was
     // read, or its socket failed.
-    fn drop_input(&mut self, slot: usize, piece: &mut [u8]) -> bool {
+    fn drop_input(&mut self, slot: usize, piece: &mut [u8]) -> bool
+        ensures others { OthersStay slot self.old.clients.items self.new.clients.items }
+        ensures worlds { self.new.worlds ≡ self.old.worlds }
+    {
         if slot >= self.clients.len() {
             return true;
         }

@@ -1,6 +1,6 @@
 //! The bytes that a client sent and for which the world has not responded yet.
-ghost use Rattle.std.specs.Prelude.{◌≡◌, ◌≢◌, ◌≤◌, ◌++◌, ◌||◌, ◌&&◌, [], IfSome, drop, nat_le, nat_lt};
-ghost use Rattle.std.specs.Prelude.{if◌then◌else◌, length, true, false};
+ghost use Rattle.std.specs.Prelude.{◌≡◌, ◌≢◌, ◌≤◌, ◌++◌, ◌||◌, ◌&&◌, [], IfSome, drop, length};
+ghost use Rattle.std.specs.Prelude.{if◌then◌else◌, nat_le, nat_lt, true, false};
 ghost use Rattle.std.specs.Io.KnownBytes.{Keeps};
 ghost use Rattle.iol_reactor.specs.Bytes.{Gains, Grows, IsBegun, IsFinished, IsGiven, IsSameInput};
 ghost use Rattle.iol_reactor.specs.Bytes.{can_read, has_room, request_of};

@@ -121,14 +121,14 @@ impl Order {
         ensures idle_count { self.new.idle_count ≤ self.old.idle_count + 1 }
         ensures second_yield { self.new.idle_count ≡ self.old.idle_count + 1 →
             (activity ≡ Activity.Yields) × (1 ≤ self.old.yields) }
-        ensures first_yield { activity ≡ Activity.Yields → self.old.yields ≡ 0 → (self.new.idle_count ≡ self.old.idle_count)
-            × (self.new.place ≡ self.old.place) }
+        ensures first_yield { activity ≡ Activity.Yields → self.old.yields ≡ 0 →
+            (self.new.idle_count ≡ self.old.idle_count) × (self.new.place ≡ self.old.place) }
         ensures resumed { activity ≡ Activity.Yields → 1 ≤ self.old.yields → IfSome self.old.resumes
             (λ next. (self.new.place ≡ next) × (self.new.idle_count ≡ self.old.idle_count)) }
-        ensures next { activity ≡ Activity.Yields → 1 ≤ self.old.yields → self.old.resumes ≡ None →
-            self.new.place ≡ place_after self.old.place self.old.count }
-        ensures counted { activity ≡ Activity.Yields → 1 ≤ self.old.yields → self.old.resumes ≡ None →
-            self.new.idle_count ≡ min (self.old.idle_count + 1) (2 ^ 64 - 1) }
+        ensures next { activity ≡ Activity.Yields → 1 ≤ self.old.yields →
+            self.old.resumes ≡ None → self.new.place ≡ place_after self.old.place self.old.count }
+        ensures counted { activity ≡ Activity.Yields → 1 ≤ self.old.yields →
+            self.old.resumes ≡ None → self.new.idle_count ≡ min (self.old.idle_count + 1) (2 ^ 64 - 1) }
     {
         match activity {
             Activity::Waits => {}
