@@ -128,7 +128,8 @@ impl Order {
         ensures next { activity ≡ Activity.Yields → 1 ≤ self.old.yields →
             self.old.resumes ≡ None → self.new.place ≡ place_after self.old.place self.old.count }
         ensures counted { activity ≡ Activity.Yields → 1 ≤ self.old.yields →
-            self.old.resumes ≡ None → self.new.idle_count ≡ min (self.old.idle_count + 1) (2 ^ 64 - 1) }
+            self.old.resumes ≡ None →
+            self.new.idle_count ≡ min (self.old.idle_count + 1) (2 ^ 64 - 1) }
     {
         match activity {
             Activity::Waits => {}
