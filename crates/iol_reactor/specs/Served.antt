@@ -1,6 +1,6 @@
 -- The history of a client: its connections, one after another, and the bytes that its socket supplied and accepted.
 use Rattle.std.specs.Prelude.{◌≡◌, ◌≢◌, ◌≤◌, ◌⊎◌, ℕ, Bool, true, false, List, [], drop, get_or, length, Option, None}
-use Rattle.std.specs.Prelude.{Some, IsSome, ⊤, IsTrue, IsFalse}
+use Rattle.std.specs.Prelude.{◌-◌, slice_get, Some, IsSome, ⊤, IsTrue, IsFalse}
 use Rattle.iol_system.specs.Machine.{SystemState}
 use Rattle.iol_proc.specs.Turns.{TransitionRelation}
 use Rattle.iol_proc.specs.World.{WorldState}
@@ -185,6 +185,10 @@ pub record IsCompleted {S : Type 0} (c next : Client S) : Type 0 where
 -- the phase of the client in this place
 abbrev pub IsPhaseAt : {S : Type 0} → (slot : ℕ) → List (Option (Client S)) → Phase → Type 0
 IsPhaseAt {S} slot clients at = (c : Client S) → get_or clients slot None ≡ Some c → c.phase ≡ at
+
+-- the free place that the next client gets, the last one of these, if there is one
+abbrev pub next_free : List ℕ → Option ℕ
+next_free free = slice_get free (length free - 1)
 
 -- a client with this socket is in this place
 abbrev pub HasSocketAt : {S : Type 0} → (socket : S) → (slot : ℕ) → List (Option (Client S)) → Type 0

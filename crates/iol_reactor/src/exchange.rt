@@ -1,9 +1,9 @@
 //! One client's exchange with its world: its response goes to its socket.
-ghost use Rattle.std.specs.Prelude.{◌≡◌, ◌≤◌, ◌↔◌, true, false, IsTrue};
+ghost use Rattle.std.specs.Prelude.{◌≡◌, ◌≤◌, ◌↔◌, None, set, true, false, IsTrue};
 ghost use Rattle.iol_reactor.specs.Bytes.{unsent_of};
 ghost use Rattle.iol_reactor.specs.Connections.{link_at};
 ghost use Rattle.iol_reactor.specs.LinkVisits.{IsOver, serving};
-ghost use Rattle.iol_reactor.specs.Served.{IsCompleted, OthersStay};
+ghost use Rattle.iol_reactor.specs.Served.{IsCompleted, IsPhaseAt, OthersStay};
 
 use crate::client::{Client, Phase};
 use crate::outbox::Outbox;
@@ -175,7 +175,12 @@ impl<S: Socket + Drop, B: Backing + Drop, P: Process, V: Service<B, P>> Places<S
     /// The socket of the client in this place failed, or the client broke a limit: nothing more is
     /// handed in or sent.
     pub fn abandon(&mut self, slot: usize, service: &mut V) -> Step
+        ensures over { IsPhaseAt slot self.new.clients.items Phase.Over }
         ensures others { OthersStay slot self.old.clients.items self.new.clients.items }
+        ensures released { self.new.worlds.links.table.items ≡
+            set self.old.worlds.links.table.items slot None }
+        ensures generation { self.new.worlds.links.generation ≡
+            self.old.worlds.links.generation }
     {
         self.give_up(slot, service);
         self.hang_up(slot);
@@ -185,6 +190,7 @@ impl<S: Socket + Drop, B: Backing + Drop, P: Process, V: Service<B, P>> Places<S
 
     // The client in this place is over.
     fn give_up(&mut self, slot: usize, service: &mut V)
+        ensures over { IsPhaseAt slot self.new.clients.items Phase.Over }
         ensures others { OthersStay slot self.old.clients.items self.new.clients.items }
         ensures worlds { self.new.worlds ≡ self.old.worlds }
     {
@@ -200,6 +206,7 @@ impl<S: Socket + Drop, B: Backing + Drop, P: Process, V: Service<B, P>> Places<S
     // Reports to the processes that the client in this place, which is over, is gone.
     fn hang_up(&mut self, slot: usize)
         ensures clients { self.new.clients ≡ self.old.clients }
+        ensures links { self.new.worlds.links ≡ self.old.worlds.links }
     {
         match self.phase(slot) {
             Phase::Over => self.worlds.hang_up(slot),
@@ -210,6 +217,11 @@ impl<S: Socket + Drop, B: Backing + Drop, P: Process, V: Service<B, P>> Places<S
     // The client in this place, which is over, gives up its connection.
     fn release(&mut self, slot: usize)
         ensures clients { self.new.clients ≡ self.old.clients }
+        ensures released { IsPhaseAt slot self.old.clients.items Phase.Over →
+            self.new.worlds.links.table.items ≡
+            set self.old.worlds.links.table.items slot None }
+        ensures generation { self.new.worlds.links.generation ≡
+            self.old.worlds.links.generation }
     {
         match self.phase(slot) {
             Phase::Over => self.worlds.release(slot),

@@ -1,6 +1,6 @@
 //! The clients in their places, and the worlds that serve them.
-ghost use Rattle.std.specs.Prelude.{◌≡◌, ◌≢◌, ◌<◌, [], length, get_or, None, Some, true, false, IfNone};
-ghost use Rattle.std.specs.Prelude.{IfOk, IfSome, ◌≤◌, ◌++◌, ◌∷◌, ◌==◌, OnOk, OnErr, is_some};
+ghost use Rattle.std.specs.Prelude.{◌≡◌, ◌≢◌, ◌<◌, [], length, get_or, None, Some, true, false};
+ghost use Rattle.std.specs.Prelude.{IfNone, IfOk, IfSome, ◌≤◌, ◌++◌, ◌∷◌, ◌==◌, OnOk, OnErr, is_some};
 ghost use Rattle.std.specs.Prelude.{count_by, if◌then◌else◌};
 ghost use Rattle.iol_reactor.specs.Connections.{link_at};
 ghost use Rattle.iol_reactor.specs.LinkSteps.{WorldsTurnAt};
@@ -77,7 +77,8 @@ impl<S: Socket + Drop, B: Backing + Drop, P: Process, V: Service<B, P>> Places<S
 
     /// The phase of the client in this place. `Over`: there is none.
     pub fn phase(&self, slot: usize) -> Phase
-        ensures { IsPhaseAt slot self.now.clients.items result }
+        ensures client { IsPhaseAt slot self.now.clients.items result }
+        ensures none { get_or self.now.clients.items slot None ≡ None → result ≡ Phase.Over }
     {
         match self.get(slot) {
             Some(client) => client.phase(),

@@ -1,6 +1,6 @@
 //! The order of process turns, and the end of a run of turns.
-ghost use Rattle.std.specs.Prelude.{◌≡◌, ◌≤◌, ◌<◌, ◌+◌, ◌&&◌, ◌||◌, None, Some, IfSome, max, nat_le};
-ghost use Rattle.std.specs.Prelude.{◌-◌, ◌^◌, if◌then◌else◌, false, min, nat_lt};
+ghost use Rattle.std.specs.Prelude.{◌≡◌, ◌≤◌, ◌<◌, ◌+◌, ◌-◌, ◌^◌, ◌&&◌, ◌||◌, None, Some, IfSome};
+ghost use Rattle.std.specs.Prelude.{if◌then◌else◌, false, max, min, nat_le, nat_lt};
 ghost use Rattle.std.specs.Option.{unwrap_or};
 ghost use Rattle.std.proofs.Props.{props};
 ghost use Rattle.iol_reactor.specs.Turns.{place_after};
@@ -103,8 +103,8 @@ impl Order {
         self.count <= self.idle_count
     }
 
-    /// Whether the run ends: all processes are idle, or its time is over. It ends by time only after
-    /// a time slice of another process than the first, if there is one.
+    /// Whether the run ends: all processes are idle, or its time is over. It ends by time only
+    /// after a time slice of another process than the first, if there is one.
     pub fn is_over(&self) -> bool
         ensures { result ≡ (self.entry.now.is_over
             || nat_le self.entry.now.count self.entry.now.idle_count) }
