@@ -1,15 +1,11 @@
 -- Places whose clients have no connection of an earlier world.
-use Rattle.std.proofs.Common.{◌≡◌, ◌∙◌, ◌<◌, ◌≤◌, ◌+◌, ℕ, List, Option, None, Some, ap, arith, inl, inr}
-use Rattle.std.proofs.Common.{set, sym}
+use Rattle.std.proofs.Common.{◌≡◌, ◌∙◌, ◌+◌, ℕ, List, Option, None, ap, arith, inl, inr}
+use Rattle.std.proofs.Common.{set}
 use Rattle.std.specs.Prelude.{IsFalse}
 use Rattle.std.proofs.lemmas.Bool.{cases_eq}
 use Rattle.iol_reactor.specs.Connections.{AreCurrent, is_earlier, link_at}
 use Rattle.iol_reactor.specs.declared.links.Link.{Link}
 use Rattle.iol_reactor.proofs.Served.{released_at, set_rest}
-
--- no place yet
-pub current_none : (generation : ℕ) (table : List (Option Link)) → AreCurrent generation 0 table
-current_none generation table j less = absurd (omega (arith, less))
 
 -- the connection of one more place is of the current world
 pub current_next : (generation places : ℕ) (table : List (Option Link)) → AreCurrent generation places table

@@ -1,4 +1,4 @@
-use Rattle.std.proofs.Common.{◌≡◌, ◌∙◌, ◌+◌, ap, subst, sym}
+use Rattle.std.proofs.Common.{◌∙◌, ◌+◌, ap, subst, sym}
 use Rattle.iol_reactor.specs.Connections.{AreCurrent, is_earlier, link_at}
 use Rattle.iol_reactor.proofs.Retiring.{current_next, current_released}
 use Rattle.iol_reactor.proofs.engine.Engine.end_outdated.Goals.{then-is_outdated+in_ok-list, else-is_outdated}
