@@ -3,9 +3,10 @@ use Rattle.std.proofs.Common.{◌≡◌, ◌∙◌, ℕ, ◌+◌, ◌-◌, ◌�
 use Rattle.std.proofs.Common.{refl, sym, ap, take, drop, append_assoc, append-nil, arith}
 use Rattle.std.proofs.Math.ListN.{drop_of_length-le}
 use Rattle.std.proofs.Math.Seq.{drop-append_seam, take-length}
-use Rattle.std.proofs.lemmas.Bool.{cases_lt}
+use Rattle.std.proofs.lemmas.Bool.{cases_lt, le-leb, leb-true}
 use Rattle.std.proofs.lemmas.List.{drop-drop, drop_min, length-append, length-drop, take-append-drop}
 use Rattle.std.specs.Io.KnownBytes.{Appends, Keeps}
+use Rattle.std.specs.Prelude.{◌↔◌, nat_le, IsTrue}
 use Rattle.iol_serve.proofs.Steps.{appends_none, appends_kept, appends_then}
 use Rattle.iol_reactor.specs.declared.input.Input.{Input}
 use Rattle.iol_reactor.specs.Bytes.{Gains, Grows, IsRestOf, IsSameInput, Passes, PassesSome}
@@ -73,6 +74,13 @@ rest_none bytes rest same = ([], sym same)
 pub rest_then : (bytes more rest : List ℕ) → IsRestOf bytes more → IsRestOf more rest → IsRestOf bytes rest
 rest_then bytes more rest a b =
     (a.0 ++ b.0, a.1 ∙ (ap (λ (l : List ℕ). a.0 ++ l) b.1 ∙ sym (append_assoc a.0 b.0 rest)))
+
+-- no byte is left from an index on
+pub all_dropped : (left : List ℕ) (at count : ℕ) → count ≡ length left → IsTrue (nat_le count at) ↔ (drop at left ≡ [])
+all_dropped left at count counted = (
+  λ past. drop_of_length-le left (omega (arith, leb-true count at past, counted)),
+  λ none. le-leb count at (omega (arith, sym (length-drop at left) ∙ ap length none, counted)),
+)
 
 -- the bytes from an index on were passed to the socket, which accepted the first of them
 pub passes_from : (held now : Option (List ℕ)) (left rest : List ℕ) (at start accepted new most : ℕ)

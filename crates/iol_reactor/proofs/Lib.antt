@@ -7,4 +7,6 @@ pub mod Clients
 pub mod LinkVisits
 pub mod Served
 pub mod Passing
+pub mod Retiring
+pub mod Free
 pub mod Ordered

@@ -1,5 +1,5 @@
 -- The number of clients that are accepted.
-use Rattle.std.specs.Prelude.{◌≡◌, ◌≤◌, ◌+◌, ℕ, ⊤, Option, None, Some, MatchResult, Result}
+use Rattle.std.specs.Prelude.{◌≡◌, ◌≤◌, ◌+◌, ℕ, Bool, false, nat_le, ⊤, Option, None, Some, MatchResult, Result}
 
 -- A listener gives one more client with `Ok`, and none with `Err`, if the number that it gave is known.
 abbrev pub Counts : {A E : Type 0} → (given now : Option ℕ) → Result A E → Type 0
@@ -21,3 +21,8 @@ abbrev pub Falls : (left now : Option ℕ) → Type 0
 Falls None now = now ≡ None
 Falls (Some n) None = ⊥
 Falls (Some n) (Some m) = m + 1 ≡ n
+
+-- the time of the next attempt has come, if there is one
+abbrev pub is_due : (open_at : Option ℕ) (now : ℕ) → Bool
+is_due None now = false
+is_due (Some at) now = nat_le at now

@@ -1,8 +1,10 @@
 -- The bytes that a client's socket supplied and accepted, and those that are buffered.
 use Rattle.std.specs.Prelude.{◌≡◌, ℕ, ◌-◌, min, List, ◌++◌, length, take, drop, Option, Result, MatchResult}
+use Rattle.std.specs.Prelude.{Bool, ◌&&◌, ◌||◌, not, nat_lt}
 use Rattle.std.specs.Io.KnownBytes.{Appends, Keeps}
 use Rattle.iol_reactor.specs.declared.client.Client.{Client}
 use Rattle.iol_reactor.specs.declared.input.Input.{Input}
+use Rattle.iol_reactor.specs.declared.limits.TheConstants.{MAX_BUFFERED}
 use Rattle.iol_reactor.specs.declared.output.Output.{Output}
 
 -- A read with this result supplied the first bytes of a buffer, as many as it counts, or none if it failed.
@@ -40,6 +42,14 @@ request_of input = take input.asked input.bytes.items
 -- the bytes that were not handed in
 abbrev pub waiting_of : Input → List ℕ
 waiting_of input = drop input.given input.bytes.items
+
+-- a read may return bytes, or the peer's end
+abbrev pub can_read : Input → Bool
+can_read input = (input.readable || input.ending) && not input.ended
+
+-- there is room for more bytes
+abbrev pub has_room : Input → Bool
+has_room input = nat_lt (length input.bytes.items) MAX_BUFFERED
 
 -- An input has the same bytes and the same request in progress, of which as much was handed in.
 pub record IsSameInput (input after : Input) : Type 0 where

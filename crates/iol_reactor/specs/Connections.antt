@@ -1,6 +1,6 @@
 -- The connections of clients.
 use Rattle.std.specs.Prelude.{◌≡◌, ◌==◌, ◌||◌, ◌&&◌, ℕ, Bool, nat_lt, nat_le, List, Option, None, Some, get_or}
-use Rattle.std.specs.Prelude.{IsTrue, false, not}
+use Rattle.std.specs.Prelude.{◌<◌, IsTrue, IsFalse, false, not}
 use Rattle.iol_reactor.specs.declared.links.Link.{Link}
 
 -- the connection of the client at an index
@@ -28,3 +28,7 @@ is_current generation (Some l) = l.generation == generation
 abbrev pub is_earlier : (generation : ℕ) → Option Link → Bool
 is_earlier generation None = false
 is_earlier generation (Some l) = not (l.generation == generation)
+
+-- No client in the first places, of this number, has a connection of an earlier world.
+abbrev pub AreCurrent : (generation places : ℕ) → List (Option Link) → Type 0
+AreCurrent generation places table = (j : ℕ) → j < places → IsFalse (is_earlier generation (link_at table j))

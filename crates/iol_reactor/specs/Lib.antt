@@ -8,3 +8,4 @@ pub mod LinkVisits
 pub mod LinkSteps
 pub mod Served
 pub mod Deadlines
+pub mod Turns

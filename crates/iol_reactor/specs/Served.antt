@@ -1,6 +1,6 @@
 -- The history of a client: its connections, one after another, and the bytes that its socket supplied and accepted.
-use Rattle.std.specs.Prelude.{◌≡◌, ◌≤◌, ◌⊎◌, ℕ, Bool, true, false, List, [], drop, get_or, Option, None, Some, IsSome}
-use Rattle.std.specs.Prelude.{⊤, IsTrue, IsFalse}
+use Rattle.std.specs.Prelude.{◌≡◌, ◌≢◌, ◌≤◌, ◌⊎◌, ℕ, Bool, true, false, List, [], drop, get_or, length, Option, None}
+use Rattle.std.specs.Prelude.{◌-◌, slice_get, Some, IsSome, ⊤, IsTrue, IsFalse}
 use Rattle.iol_system.specs.Machine.{SystemState}
 use Rattle.iol_proc.specs.Turns.{TransitionRelation}
 use Rattle.iol_proc.specs.World.{WorldState}
@@ -186,9 +186,18 @@ pub record IsCompleted {S : Type 0} (c next : Client S) : Type 0 where
 abbrev pub IsPhaseAt : {S : Type 0} → (slot : ℕ) → List (Option (Client S)) → Phase → Type 0
 IsPhaseAt {S} slot clients at = (c : Client S) → get_or clients slot None ≡ Some c → c.phase ≡ at
 
+-- the free place that the next client gets, the last one of these, if there is one
+abbrev pub next_free : List ℕ → Option ℕ
+next_free free = slice_get free (length free - 1)
+
 -- a client with this socket is in this place
 abbrev pub HasSocketAt : {S : Type 0} → (socket : S) → (slot : ℕ) → List (Option (Client S)) → Type 0
 HasSocketAt {S} socket slot clients = (c : Client S) × (get_or clients slot None ≡ Some c) × (c.socket ≡ socket)
+
+-- Every place except this one keeps its client, or none, and there are as many places.
+pub record OthersStay {S : Type 0} (slot : ℕ) (clients after : List (Option (Client S))) : Type 0 where
+  pub others : (j : ℕ) → j ≢ slot → get_or after j None ≡ get_or clients j None
+  pub places : length after ≡ length clients
 
 -- a frame of the bytes after the request in progress of the client in this place
 abbrev pub IsFrameAt : {S : Type 0} → (frames : List ℕ → Frame → Type 0) → (slot : ℕ) → List (Option (Client S)) → Frame

@@ -1,6 +1,7 @@
 //! The clients that are accepted.
-ghost use Rattle.std.specs.Prelude.{◌≡◌, ◌≢◌, ℕ, Option, Some, None, true};
-ghost use Rattle.iol_reactor.specs.Accepting.{Counts, Falls, StaysWithin};
+ghost use Rattle.std.specs.Prelude.{◌≡◌, ◌≢◌, ◌+◌, ◌-◌, ◌^◌, ◌||◌, ◌↔◌, ℕ, Option, Some, None};
+ghost use Rattle.std.specs.Prelude.{true, false, min, if◌then◌else◌, IfNone, IfSome, IsTrue};
+ghost use Rattle.iol_reactor.specs.Accepting.{Counts, Falls, StaysWithin, is_due};
 
 use crate::limits::ACCEPT_MILLIS;
 use mio::net::{TcpListener, TcpStream};
@@ -44,6 +45,9 @@ impl<L> Acceptor<L> {
     pub fn new(listener: L, left: Option<u32>) -> Acceptor<L>
         ensures listener { result.listener ≡ listener }
         ensures left { result.left ≡ left }
+        ensures open { result.is_open ≡ true }
+        ensures retried { result.open_at ≡ None }
+        ensures failure { result.failure ≡ None }
     {
         Acceptor {
             listener,
@@ -56,25 +60,29 @@ impl<L> Acceptor<L> {
 
     /// Whether no more clients may be accepted.
     pub fn is_exhausted(&self) -> bool
-        ensures { result ≡ true → self.now.left ≡ Some 0 }
+        ensures { IsTrue result ↔ (self.now.left ≡ Some 0) }
     {
         self.left == Some(0)
     }
 
     /// Whether a client may wait to be accepted, and may be accepted.
     pub fn is_open(&self) -> bool
-        ensures { result ≡ true → self.now.left ≢ Some 0 }
+        ensures { IsTrue result ↔ (IsTrue self.now.is_open × (self.now.left ≢ Some 0)) }
     {
         self.is_open && self.left != Some(0)
     }
 
     /// The time of the next attempt of a listener that failed, if it failed.
-    pub fn open_at(&self) -> Option<u64> {
+    pub fn open_at(&self) -> Option<u64>
+        ensures { result ≡ self.now.open_at }
+    {
         self.open_at
     }
 
     /// How accepting failed in this attempt, if it did.
-    pub fn failure(&self) -> Option<ErrorKind> {
+    pub fn failure(&self) -> Option<ErrorKind>
+        ensures { result ≡ self.now.failure }
+    {
         self.failure
     }
 
@@ -82,6 +90,9 @@ impl<L> Acceptor<L> {
     pub fn pause(&mut self, now: u64)
         ensures listener { self.new.listener ≡ self.old.listener }
         ensures left { self.new.left ≡ self.old.left }
+        ensures failure { self.new.failure ≡ self.old.failure }
+        ensures closed { self.new.is_open ≡ false }
+        ensures retried { self.new.open_at ≡ Some (min (now + ACCEPT_MILLIS) (2 ^ 64 - 1)) }
     {
         self.is_open = false;
         self.open_at = Some(now.saturating_add(ACCEPT_MILLIS));
@@ -91,6 +102,9 @@ impl<L> Acceptor<L> {
     pub fn open(&mut self)
         ensures listener { self.new.listener ≡ self.old.listener }
         ensures left { self.new.left ≡ self.old.left }
+        ensures open { self.new.is_open ≡ true }
+        ensures retried { self.new.open_at ≡ self.old.open_at }
+        ensures failure { self.new.failure ≡ self.old.failure }
     {
         self.is_open = true;
     }
@@ -99,6 +113,10 @@ impl<L> Acceptor<L> {
     pub fn reopen(&mut self, now: u64)
         ensures listener { self.new.listener ≡ self.old.listener }
         ensures left { self.new.left ≡ self.old.left }
+        ensures failure { self.new.failure ≡ None }
+        ensures open { self.new.is_open ≡ (self.old.is_open || is_due self.old.open_at now) }
+        ensures retried { self.new.open_at ≡
+            (if is_due self.old.open_at now then None else self.old.open_at) }
     {
         self.failure = None;
         if let Some(at) = self.open_at {
@@ -113,8 +131,12 @@ impl<L> Acceptor<L> {
     pub fn accept<S>(&mut self, now: u64) -> Option<(S, SocketAddr)>
     where
         L: Listener<S>,
-        ensures { StaysWithin (L.given self.old.listener) self.old.left
+        ensures within { StaysWithin (L.given self.old.listener) self.old.left
             (L.given self.new.listener) self.new.left }
+        ensures counts { IfSome result (λ client. Falls self.old.left self.new.left) }
+        ensures none { IfNone result (self.new.left ≡ self.old.left) }
+        ensures closed { self.old.is_open ≡ false → (result ≡ None) × (self.new ≡ self.old) }
+        ensures exhausted { self.old.left ≡ Some 0 → (result ≡ None) × (self.new ≡ self.old) }
     {
         if !self.is_open() {
             return None;
@@ -146,6 +168,16 @@ impl<L> Acceptor<L> {
     fn refuse(&mut self, kind: ErrorKind, now: u64)
         ensures listener { self.new.listener ≡ self.old.listener }
         ensures left { self.new.left ≡ self.old.left }
+        ensures aborted { kind ≡ ErrorKind.ConnectionAborted → self.new ≡ self.old }
+        ensures interrupted { kind ≡ ErrorKind.Interrupted → self.new ≡ self.old }
+        ensures empty { kind ≡ ErrorKind.WouldBlock →
+            self.new ≡ record self.old { is_open = false } }
+        ensures fails { kind ≢ ErrorKind.ConnectionAborted → kind ≢ ErrorKind.Interrupted →
+            kind ≢ ErrorKind.WouldBlock → self.new ≡ record self.old {
+              is_open = false;
+              open_at = Some (min (now + ACCEPT_MILLIS) (2 ^ 64 - 1));
+              failure = Some kind;
+            } }
     {
         match kind {
             ErrorKind::ConnectionAborted | ErrorKind::Interrupted => {}

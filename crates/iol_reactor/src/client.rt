@@ -1,8 +1,10 @@
 //! A client: its socket, and the bytes that are buffered between it and its connection of a world.
-ghost use Rattle.std.specs.Prelude.{◌≡◌, ◌≢◌, [], drop, nat_le, nat_lt, true};
+ghost use Rattle.std.specs.Prelude.{◌≡◌, ◌≢◌, ◌+◌, ◌-◌, ◌^◌, ◌||◌, ◌&&◌, ◌↔◌, ℕ, [], drop, length};
+ghost use Rattle.std.specs.Prelude.{if◌then◌else◌, min, nat_le, nat_lt, not, true, false, IsTrue};
 ghost use Rattle.std.specs.Io.KnownBytes.{Keeps};
 ghost use Rattle.iol_reactor.specs.Bytes.{Gains, Grows, IsBegun, IsFinished, IsGiven, IsSameInput};
 ghost use Rattle.iol_reactor.specs.Bytes.{Passes, PassesSome, request_of, unsent_of};
+ghost use Rattle.iol_reactor.specs.Bytes.{can_read, has_room};
 
 use crate::input::{Input, Reading};
 use crate::output::{Output, Sending};
@@ -71,6 +73,10 @@ impl<S: Socket> Client<S> {
         ensures asked { result.input.asked ≡ 0 }
         ensures given { result.input.given ≡ 0 }
         ensures unsent { unsent_of result.output ≡ [] }
+        ensures last { result.is_last ≡ false }
+        ensures whole { result.is_whole ≡ false }
+        ensures peer { result.peer ≡ peer }
+        ensures time { result.last ≡ now }
     {
         Client {
             socket,
@@ -103,6 +109,7 @@ impl<S: Socket> Client<S> {
         ensures output { self.new.output ≡ self.old.output }
         ensures last { self.new.is_last ≡ self.old.is_last }
         ensures whole { self.new.is_whole ≡ self.old.is_whole }
+        ensures time { self.new.last ≡ self.old.last }
     {
         self.phase = phase;
     }
@@ -115,6 +122,7 @@ impl<S: Socket> Client<S> {
         ensures socket { self.new.socket ≡ self.old.socket }
         ensures input { self.new.input ≡ self.old.input }
         ensures output { self.new.output ≡ self.old.output }
+        ensures time { self.new.last ≡ self.old.last }
     {
         self.phase = Phase::Flushing;
         self.is_whole = is_whole;
@@ -129,7 +137,7 @@ impl<S: Socket> Client<S> {
 
     /// Whether its socket accepted all bytes.
     pub fn is_flushed(&self) -> bool
-        ensures { result ≡ true → unsent_of self.now.output ≡ [] }
+        ensures { IsTrue result ↔ (unsent_of self.now.output ≡ []) }
     {
         self.output.is_flushed()
     }
@@ -142,22 +150,29 @@ impl<S: Socket> Client<S> {
         ensures output { self.new.output ≡ self.old.output }
         ensures last { self.new.is_last ≡ self.old.is_last }
         ensures whole { self.new.is_whole ≡ self.old.is_whole }
+        ensures time { self.new.last ≡ self.old.last }
     {
         self.input.give(left);
     }
 
     /// The number of bytes that the socket accepted.
-    pub fn accepted(&self) -> u64 {
+    pub fn accepted(&self) -> u64
+        ensures { result ≡ self.now.output.accepted }
+    {
         self.output.accepted()
     }
 
     /// Whether the socket accepted no more when it was last written to.
-    pub fn is_blocked(&self) -> bool {
+    pub fn is_blocked(&self) -> bool
+        ensures { result ≡ self.now.output.is_blocked }
+    {
         self.output.is_blocked()
     }
 
     /// The time since bytes last arrived or were accepted.
-    pub fn silence(&self, now: u64) -> u64 {
+    pub fn silence(&self, now: u64) -> u64
+        ensures { result ≡ now - self.now.last }
+    {
         now.saturating_sub(self.last)
     }
 
@@ -170,6 +185,11 @@ impl<S: Socket> Client<S> {
         ensures last { self.new.is_last ≡ self.old.is_last }
         ensures whole { self.new.is_whole ≡ self.old.is_whole }
         ensures ended { self.new.input.ended ≡ self.old.input.ended }
+        ensures visits { result ≡ ((reads || ends) || (writes && self.old.output.is_blocked)) }
+        ensures blocked { self.new.output.is_blocked ≡ (self.old.output.is_blocked && not writes) }
+        ensures readable { self.new.input.readable ≡ (self.old.input.readable || reads) }
+        ensures ending { self.new.input.ending ≡ (self.old.input.ending || ends) }
+        ensures time { self.new.last ≡ self.old.last }
     {
         self.input.note(reads, ends);
         let was_awaited = writes && self.output.unblock();
@@ -177,7 +197,9 @@ impl<S: Socket> Client<S> {
     }
 
     /// Whether a read may return bytes or the peer's end, and there is room for more bytes.
-    pub fn may_read(&self) -> bool {
+    pub fn may_read(&self) -> bool
+        ensures { result ≡ (can_read self.now.input && has_room self.now.input) }
+    {
         self.input.may_read()
     }
 
@@ -189,7 +211,10 @@ impl<S: Socket> Client<S> {
     }
 
     /// Whether no request is in progress, and there are bytes of a next one, or its end.
-    pub fn has_next(&self) -> bool {
+    pub fn has_next(&self) -> bool
+        ensures { result ≡ ((nat_lt self.now.input.asked (length self.now.input.bytes.items)
+            || (can_read self.now.input && has_room self.now.input)) || self.now.input.ended) }
+    {
         !self.input.next().is_empty() || self.input.may_read() || self.input.is_ended()
     }
 
@@ -205,6 +230,11 @@ impl<S: Socket> Client<S> {
         ensures output { self.new.output ≡ self.old.output }
         ensures last { self.new.is_last ≡ self.old.is_last }
         ensures whole { self.new.is_whole ≡ self.old.is_whole }
+        ensures time { (n : ℕ) → result ≡ Reading.Bytes n → self.new.last ≡ now }
+        ensures silent { ((n : ℕ) → result ≢ Reading.Bytes n) → self.new.last ≡ self.old.last }
+        ensures end { result ≡ Reading.End → self.new.input.ended ≡ true }
+        ensures ended { result ≢ Reading.End → self.new.input.ended ≡ self.old.input.ended }
+        ensures empty { result ≡ Reading.Empty → can_read self.new.input ≡ false }
     {
         let reading = self.input.read_from(&mut self.socket, piece);
         if matches!(reading, Reading::Bytes(_)) {
@@ -229,6 +259,7 @@ impl<S: Socket> Client<S> {
         ensures socket { self.new.socket ≡ self.old.socket }
         ensures phase { self.new.phase ≡ Phase.Answering }
         ensures whole { self.new.is_whole ≡ self.old.is_whole }
+        ensures time { self.new.last ≡ self.old.last }
     {
         self.phase = Phase::Answering;
         self.input.begin(size);
@@ -260,6 +291,12 @@ impl<S: Socket> Client<S> {
         ensures input { self.new.input ≡ self.old.input }
         ensures last { self.new.is_last ≡ self.old.is_last }
         ensures whole { self.new.is_whole ≡ self.old.is_whole }
+        ensures time { self.new.last ≡ (if nat_lt self.old.output.accepted
+            self.new.output.accepted then now else self.old.last) }
+        ensures accepted { self.new.output.accepted ≡ min (self.old.output.accepted
+            + (length (unsent_of self.old.output) - length (unsent_of self.new.output)))
+            (2 ^ 64 - 1) }
+        ensures blocked { IsTrue self.new.output.is_blocked ↔ (result ≡ Sending.Blocked) }
     {
         let before = self.output.accepted();
         let sending = self.output.flush(&mut self.socket);
@@ -280,6 +317,7 @@ impl<S: Socket> Client<S> {
         ensures input { self.new.input ≡ self.old.input }
         ensures last { self.new.is_last ≡ self.old.is_last }
         ensures whole { self.new.is_whole ≡ self.old.is_whole }
+        ensures time { self.new.last ≡ now }
     {
         self.last = now;
         self.output.send(&mut self.socket, bytes)
@@ -293,6 +331,7 @@ impl<S: Socket> Client<S> {
         ensures input { self.new.input ≡ self.old.input }
         ensures last { self.new.is_last ≡ self.old.is_last }
         ensures whole { self.new.is_whole ≡ self.old.is_whole }
+        ensures time { self.new.last ≡ now }
     {
         self.last = now;
     }
@@ -307,6 +346,7 @@ impl<S: Socket> Client<S> {
         ensures input { self.new.input ≡ self.old.input }
         ensures last { self.new.is_last ≡ self.old.is_last }
         ensures whole { self.new.is_whole ≡ self.old.is_whole }
+        ensures time { self.new.last ≡ self.old.last }
     {
         self.output.room()
     }
@@ -319,17 +359,27 @@ impl<S: Socket> Client<S> {
         ensures input { self.new.input ≡ self.old.input }
         ensures last { self.new.is_last ≡ self.old.is_last }
         ensures whole { self.new.is_whole ≡ self.old.is_whole }
+        ensures time { self.new.last ≡ self.old.last }
     {
         self.output.release();
     }
 
     /// Whether the response has begun.
-    pub fn has_begun(&self) -> bool {
+    pub fn has_begun(&self) -> bool
+        ensures { result ≡ nat_lt 0 self.now.output.produced }
+    {
         self.output.produced() > 0
     }
 
     /// The request and the response so far.
-    pub fn exchange(&self, complete: bool) -> Exchange<'_> {
+    pub fn exchange(&self, complete: bool) -> Exchange<'_>
+        ensures request { result.request.now ≡ request_of self.now.input }
+        ensures head { result.head.now ≡ self.now.output.head.items }
+        ensures produced { result.produced ≡ self.now.output.produced }
+        ensures sent { result.sent ≡ self.now.output.sent }
+        ensures complete { result.complete ≡ complete }
+        ensures peer { result.peer ≡ self.now.peer }
+    {
         Exchange {
             peer: self.peer,
             request: self.input.request(),
@@ -363,6 +413,7 @@ impl<S: Socket> Client<S> {
         ensures output { self.new.output ≡ self.old.output }
         ensures last { self.new.is_last ≡ self.old.is_last }
         ensures whole { self.new.is_whole ≡ self.old.is_whole }
+        ensures time { self.new.last ≡ now }
     {
         self.input.finish();
         self.last = now;
@@ -377,12 +428,15 @@ impl<S: Socket> Client<S> {
         ensures output { self.new.output ≡ self.old.output }
         ensures last { self.new.is_last ≡ self.old.is_last }
         ensures whole { self.new.is_whole ≡ self.old.is_whole }
+        ensures time { self.new.last ≡ self.old.last }
     {
         self.socket.end_output().is_ok()
     }
 
     /// Whether a read may return bytes, or the peer's end.
-    pub fn is_readable(&self) -> bool {
+    pub fn is_readable(&self) -> bool
+        ensures { result ≡ can_read self.now.input }
+    {
         self.input.is_readable()
     }
 
@@ -395,6 +449,9 @@ impl<S: Socket> Client<S> {
         ensures phase { self.new.phase ≡ self.old.phase }
         ensures output { self.new.output ≡ self.old.output }
         ensures whole { self.new.is_whole ≡ self.old.is_whole }
+        ensures time { self.new.last ≡ self.old.last }
+        ensures ended { self.new.input.ended ≡ self.old.input.ended }
+        ensures last { self.new.is_last ≡ self.old.is_last }
     {
         if !self.input.is_readable() {
             return false;

@@ -1,9 +1,9 @@
 //! A queue of deadlines that are all equally far ahead when they are set.
 ghost use Rattle.std.specs.Prelude.{◌≡◌, ◌≤◌, ◌<◌, ◌+◌, ◌-◌, ◌^◌, ◌++◌, ◌∷◌, [], ℕ, None, max, min};
-ghost use Rattle.std.specs.Prelude.{IfOk, IfSome, OnErr, OnOk, length, option_map, slice_get};
+ghost use Rattle.std.specs.Prelude.{IfOk, IfSome, OnErr, OnOk, length};
 ghost use Rattle.std.specs.List.{All};
 ghost use Rattle.std.proofs.Props.{props};
-ghost use Rattle.iol_reactor.specs.Deadlines.{IsOrdered, last_of};
+ghost use Rattle.iol_reactor.specs.Deadlines.{IsOrdered, first_of, last_of};
 
 use std::alloc::{AllocError, Global};
 use std::collections::VecDeque;
@@ -78,7 +78,8 @@ impl<K: Copy> Deadlines<K> {
     pub fn take_first(&mut self) -> Option<K>
         ensures first { IfSome result (λ key. (at : ℕ) × (self.old.entries.items ≡
             record { at = at; key = key } ∷ self.new.entries.items)) }
-        ensures none { result ≡ None → (self.old.entries.items ≡ []) × (self.new.entries.items ≡ []) }
+        ensures none { result ≡ None →
+            (self.old.entries.items ≡ []) × (self.new.entries.items ≡ []) }
         ensures delay { self.new.delay ≡ self.old.delay }
     {
         let first = self.entries.pop_front()?;
@@ -94,7 +95,7 @@ impl<K: Copy> Deadlines<K> {
 
     /// The first deadline.
     pub fn first(&self) -> Option<u64>
-        ensures { result ≡ option_map (λ d. d.at) (slice_get self.now.entries.items 0) }
+        ensures { result ≡ first_of self.now.entries.items }
     {
         let first = self.entries.front()?;
         Some(first.at)

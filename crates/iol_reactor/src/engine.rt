@@ -1,7 +1,11 @@
 //! The clients and the worlds that serve them, for all kinds of sockets.
-ghost use Rattle.std.specs.Prelude.{◌≡◌, ◌<◌, ◌≤◌, ◌-◌, [], get_or, length, max, nat_lt, None, Some, IfNone, IfOk, IfSome};
-ghost use Rattle.std.specs.Prelude.{◌&&◌, is_some, nat_le};
-ghost use Rattle.iol_reactor.specs.Served.{HasKnownHistory, IsEmpty};
+ghost use Rattle.std.specs.Prelude.{◌≡◌, ◌<◌, ◌≤◌, ◌+◌, ◌-◌, ◌^◌, ◌&&◌, ◌||◌, ◌++◌, ◌∷◌, []};
+ghost use Rattle.std.specs.Prelude.{◌≢◌, ◌⊎◌, count_by, get_or, length};
+ghost use Rattle.std.specs.Prelude.{is_some, max, min, nat_le, nat_lt, not, option_map, true};
+ghost use Rattle.std.specs.Prelude.{None, Some, IfNone, IfOk, IfSome};
+ghost use Rattle.iol_reactor.specs.Deadlines.{earlier_of, first_of};
+ghost use Rattle.iol_reactor.specs.Served.{HasKnownHistory, HasSocketAt, IsEmpty, OthersStay};
+ghost use Rattle.iol_reactor.specs.Served.{next_free};
 
 use crate::client::Client;
 use crate::limits::{Limits, ROOM_MILLIS};
@@ -11,7 +15,7 @@ use crate::places::Places;
 use crate::room::Room;
 use crate::service::Service;
 use crate::socket::Socket;
-use crate::timers::{Key, Timers};
+use crate::timers::{Key, Timers, earlier};
 use crate::worlds::Worlds;
 use iol_back::backing::Backing;
 use iol_proc::process::Process;
@@ -146,7 +150,7 @@ impl<S: Socket + Drop, B: Backing + Drop, P: Process, V: Service<B, P>> Engine<S
 
     /// Sets the time; it never goes back.
     pub fn set_now(&mut self, now: u64)
-        ensures { self.new.now ≡ max now self.old.now }
+        ensures { self.new ≡ record self.old { now = max now self.old.now } }
     {
         self.now = now.max(self.now);
     }
@@ -166,6 +170,9 @@ impl<S: Socket + Drop, B: Backing + Drop, P: Process, V: Service<B, P>> Engine<S
         ensures takes { self.old.places.worlds.links.generation < 18446744073709551615 →
             self.new.places.worlds.current.world ≡ world }
         ensures since { self.new.renewed_at ≡ self.old.now }
+        ensures time { self.new.now ≡ self.old.now }
+        ensures limits { self.new.limits ≡ self.old.limits }
+        ensures moved { self.new.is_moved ≡ true }
     {
         self.places.renew(world);
         self.is_moved = true;
@@ -195,7 +202,12 @@ impl<S: Socket + Drop, B: Backing + Drop, P: Process, V: Service<B, P>> Engine<S
     }
 
     /// The socket of the client in this place.
-    pub fn socket(&self, slot: usize) -> Option<&S> {
+    pub fn socket(&self, slot: usize) -> Option<&S>
+        ensures socket { IfSome result (λ s. option_map (λ c. c.socket)
+            (get_or self.entry.now.places.clients.items slot None) ≡ Some s.now) }
+        ensures none { IfNone result
+            (get_or self.entry.now.places.clients.items slot None ≡ None) }
+    {
         match self.places.get(slot) {
             Some(client) => Some(client.socket()),
             None => None,
@@ -213,7 +225,10 @@ impl<S: Socket + Drop, B: Backing + Drop, P: Process, V: Service<B, P>> Engine<S
 
     /// The place of the next client, for which there is memory. None: there is no place, or no
     /// memory, for one more.
-    pub fn vacancy(&mut self) -> Option<usize> {
+    pub fn vacancy(&mut self) -> Option<usize>
+        ensures next { IfSome result (λ slot. next_free self.new.free.items ≡ Some slot) }
+        ensures place { self.old.free.items ≢ [] → self.new.places ≡ self.old.places }
+    {
         if self.timers.silences.reserve().is_err() {
             return None;
         }
@@ -227,6 +242,8 @@ impl<S: Socket + Drop, B: Backing + Drop, P: Process, V: Service<B, P>> Engine<S
     fn add_place(&mut self) -> Option<usize>
         ensures within { IfSome result (λ slot. slot < self.old.limits.max_clients) }
         ensures last { IfSome result (λ slot. slot ≡ length self.old.places.clients.items) }
+        ensures free { IfSome result
+            (λ slot. self.new.free.items ≡ self.old.free.items ++ slot ∷ []) }
         ensures full { self.old.limits.max_clients ≤ length self.old.places.clients.items →
             (result ≡ None) × (self.new ≡ self.old) }
     {
@@ -246,6 +263,13 @@ impl<S: Socket + Drop, B: Backing + Drop, P: Process, V: Service<B, P>> Engine<S
     pub fn admit(&mut self, socket: S, peer: SocketAddr)
         requires supplied { IsEmpty (S.supplied socket) }
         requires accepted { IsEmpty (S.accepted socket) }
+        ensures full { self.old.free.items ≡ [] → self.new.places ≡ self.old.places }
+        ensures others { IfSome (next_free self.old.free.items) (λ slot. OthersStay slot
+            self.old.places.clients.items self.new.places.clients.items) }
+        ensures admits { IfSome (next_free self.old.free.items) (λ slot.
+            slot < length self.old.places.clients.items →
+            HasSocketAt socket slot self.new.places.clients.items
+            ⊎ (self.new.places ≡ self.old.places)) }
     {
         let Some(slot) = self.free.pop() else {
             return;
@@ -282,7 +306,9 @@ impl<S: Socket + Drop, B: Backing + Drop, P: Process, V: Service<B, P>> Engine<S
     }
 
     /// The client at this index is visited in the next round.
-    pub(crate) fn list(&mut self, slot: usize) -> Result<(), AllocError> {
+    pub(crate) fn list(&mut self, slot: usize) -> Result<(), AllocError>
+        ensures places { self.new.places ≡ self.old.places }
+    {
         if let Some(Some(marks)) = self.marks.get_mut(slot) {
             if !marks.is_ready {
                 marks.is_ready = true;
@@ -293,25 +319,39 @@ impl<S: Socket + Drop, B: Backing + Drop, P: Process, V: Service<B, P>> Engine<S
     }
 
     /// A step lacked room or memory: all clients are visited after a while.
-    pub(crate) fn starve(&mut self) {
+    pub(crate) fn starve(&mut self)
+        ensures waits { IfSome self.old.retry_at (λ at. self.new ≡ self.old) }
+        ensures retries { self.old.retry_at ≡ None → self.new ≡ record self.old {
+          retry_at = Some (min (self.old.now + ROOM_MILLIS) (2 ^ 64 - 1));
+        } }
+    {
         if self.retry_at.is_none() {
             self.retry_at = Some(self.now.saturating_add(ROOM_MILLIS));
         }
     }
 
     /// Whether a round has work at once.
-    pub fn is_busy(&self) -> bool {
+    pub fn is_busy(&self) -> bool
+        ensures { result ≡ ((nat_lt 0 (length self.entry.now.ready.items)
+            || not self.entry.now.is_idle)
+            || (nat_lt 0 (length self.entry.now.waiting.items)
+            && nat_lt (count_by is_some self.entry.now.places.worlds.links.table.items)
+            self.entry.now.limits.live)) }
+    {
         !self.ready.is_empty()
             || !self.is_idle
             || (!self.waiting.is_empty() && self.worlds().links() < self.limits.live)
     }
 
     /// The first time of a deadline or a retry, which no socket reports.
-    pub fn first_deadline(&self) -> Option<u64> {
-        match (self.timers.first(), self.retry_at) {
-            (Some(first), Some(at)) => Some(first.min(at)),
-            (Some(first), None) => Some(first),
-            (None, at) => at,
-        }
+    pub fn first_deadline(&self) -> Option<u64>
+        ensures { result ≡ earlier_of (earlier_of
+            (first_of self.entry.now.timers.silences.entries.items)
+            (earlier_of (first_of self.entry.now.timers.heads.entries.items)
+            (earlier_of (first_of self.entry.now.timers.rates.entries.items)
+            (earlier_of (first_of self.entry.now.timers.drains.entries.items)
+            (first_of self.entry.now.timers.parks.entries.items))))) self.entry.now.retry_at }
+    {
+        earlier(self.timers.first(), self.retry_at)
     }
 }

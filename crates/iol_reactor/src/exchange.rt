@@ -1,9 +1,9 @@
 //! One client's exchange with its world: its response goes to its socket.
-ghost use Rattle.std.specs.Prelude.{◌≡◌, ◌≤◌, true, false};
+ghost use Rattle.std.specs.Prelude.{◌≡◌, ◌≤◌, ◌↔◌, None, set, true, false, IsTrue};
 ghost use Rattle.iol_reactor.specs.Bytes.{unsent_of};
 ghost use Rattle.iol_reactor.specs.Connections.{link_at};
 ghost use Rattle.iol_reactor.specs.LinkVisits.{IsOver, serving};
-ghost use Rattle.iol_reactor.specs.Served.{IsCompleted};
+ghost use Rattle.iol_reactor.specs.Served.{IsCompleted, IsPhaseAt, OthersStay};
 
 use crate::client::{Client, Phase};
 use crate::outbox::Outbox;
@@ -52,7 +52,9 @@ impl<S: Socket + Drop, B: Backing + Drop, P: Process, V: Service<B, P>> Places<S
         slot: usize,
         service: &mut V,
         moment: Moment,
-    ) -> Step {
+    ) -> Step
+        ensures others { OthersStay slot self.old.clients.items self.new.clients.items }
+    {
         match self.flush(slot, moment.now) {
             Sending::All => {}
             Sending::Blocked => return Step::Rests,
@@ -69,7 +71,9 @@ impl<S: Socket + Drop, B: Backing + Drop, P: Process, V: Service<B, P>> Places<S
     }
 
     // The socket of the client in this place has accepted all that the world sent so far.
-    fn after_all(&mut self, slot: usize, service: &mut V, moment: Moment) -> Step {
+    fn after_all(&mut self, slot: usize, service: &mut V, moment: Moment) -> Step
+        ensures others { OthersStay slot self.old.clients.items self.new.clients.items }
+    {
         if self.is_over(slot) {
             return self.ended(slot, service, moment.now);
         }
@@ -81,7 +85,10 @@ impl<S: Socket + Drop, B: Backing + Drop, P: Process, V: Service<B, P>> Places<S
 
     // If the response of the client in this place was sent whole, the client is idle, and its next
     // request may be handed in.
-    fn complete(&mut self, slot: usize, service: &mut V, moment: Moment) -> bool {
+    fn complete(&mut self, slot: usize, service: &mut V, moment: Moment) -> bool
+        ensures others { OthersStay slot self.old.clients.items self.new.clients.items }
+        ensures worlds { self.new.worlds ≡ self.old.worlds }
+    {
         if slot >= self.clients.len() {
             return false;
         }
@@ -105,6 +112,7 @@ impl<S: Socket + Drop, B: Backing + Drop, P: Process, V: Service<B, P>> Places<S
         requires { IsOver (link_at self.old.worlds.links.table.items slot)
             (serving self.old.worlds.links.generation self.old.worlds.current.world
             (λ h. h.world) self.old.worlds.retiring) }
+        ensures others { OthersStay slot self.old.clients.items self.new.clients.items }
     {
         match self.phase(slot) {
             Phase::Leaving => {
@@ -123,6 +131,7 @@ impl<S: Socket + Drop, B: Backing + Drop, P: Process, V: Service<B, P>> Places<S
         requires { IsOver (link_at self.old.worlds.links.table.items slot)
             (serving self.old.worlds.links.generation self.old.worlds.current.world
             (λ h. h.world) self.old.worlds.retiring) }
+        ensures others { OthersStay slot self.old.clients.items self.new.clients.items }
     {
         if slot >= self.clients.len() {
             return;
@@ -146,6 +155,7 @@ impl<S: Socket + Drop, B: Backing + Drop, P: Process, V: Service<B, P>> Places<S
         requires { IsOver (link_at self.old.worlds.links.table.items slot)
             (serving self.old.worlds.links.generation self.old.worlds.current.world
             (λ h. h.world) self.old.worlds.retiring) }
+        ensures others { OthersStay slot self.old.clients.items self.new.clients.items }
     {
         if slot >= self.clients.len() {
             return;
@@ -164,7 +174,14 @@ impl<S: Socket + Drop, B: Backing + Drop, P: Process, V: Service<B, P>> Places<S
 
     /// The socket of the client in this place failed, or the client broke a limit: nothing more is
     /// handed in or sent.
-    pub fn abandon(&mut self, slot: usize, service: &mut V) -> Step {
+    pub fn abandon(&mut self, slot: usize, service: &mut V) -> Step
+        ensures over { IsPhaseAt slot self.new.clients.items Phase.Over }
+        ensures others { OthersStay slot self.old.clients.items self.new.clients.items }
+        ensures released { self.new.worlds.links.table.items ≡
+            set self.old.worlds.links.table.items slot None }
+        ensures generation { self.new.worlds.links.generation ≡
+            self.old.worlds.links.generation }
+    {
         self.give_up(slot, service);
         self.hang_up(slot);
         self.release(slot);
@@ -172,7 +189,11 @@ impl<S: Socket + Drop, B: Backing + Drop, P: Process, V: Service<B, P>> Places<S
     }
 
     // The client in this place is over.
-    fn give_up(&mut self, slot: usize, service: &mut V) {
+    fn give_up(&mut self, slot: usize, service: &mut V)
+        ensures over { IsPhaseAt slot self.new.clients.items Phase.Over }
+        ensures others { OthersStay slot self.old.clients.items self.new.clients.items }
+        ensures worlds { self.new.worlds ≡ self.old.worlds }
+    {
         if slot >= self.clients.len() {
             return;
         }
@@ -183,7 +204,10 @@ impl<S: Socket + Drop, B: Backing + Drop, P: Process, V: Service<B, P>> Places<S
     }
 
     // Reports to the processes that the client in this place, which is over, is gone.
-    fn hang_up(&mut self, slot: usize) {
+    fn hang_up(&mut self, slot: usize)
+        ensures clients { self.new.clients ≡ self.old.clients }
+        ensures links { self.new.worlds.links ≡ self.old.worlds.links }
+    {
         match self.phase(slot) {
             Phase::Over => self.worlds.hang_up(slot),
             _ => {}
@@ -191,7 +215,14 @@ impl<S: Socket + Drop, B: Backing + Drop, P: Process, V: Service<B, P>> Places<S
     }
 
     // The client in this place, which is over, gives up its connection.
-    fn release(&mut self, slot: usize) {
+    fn release(&mut self, slot: usize)
+        ensures clients { self.new.clients ≡ self.old.clients }
+        ensures released { IsPhaseAt slot self.old.clients.items Phase.Over →
+            self.new.worlds.links.table.items ≡
+            set self.old.worlds.links.table.items slot None }
+        ensures generation { self.new.worlds.links.generation ≡
+            self.old.worlds.links.generation }
+    {
         match self.phase(slot) {
             Phase::Over => self.worlds.release(slot),
             _ => {}
@@ -200,7 +231,10 @@ impl<S: Socket + Drop, B: Backing + Drop, P: Process, V: Service<B, P>> Places<S
 
     /// The client in this place, which has no connection, ends: the rest is sent, its output is
     /// ended, and its peer's end is awaited.
-    pub fn close(&mut self, slot: usize, piece: &mut [u8], now: u64) -> Step {
+    pub fn close(&mut self, slot: usize, piece: &mut [u8], now: u64) -> Step
+        ensures others { OthersStay slot self.old.clients.items self.new.clients.items }
+        ensures worlds { self.new.worlds ≡ self.old.worlds }
+    {
         match self.flush(slot, now) {
             Sending::All => {}
             Sending::Blocked => return Step::Rests,
@@ -213,7 +247,10 @@ impl<S: Socket + Drop, B: Backing + Drop, P: Process, V: Service<B, P>> Places<S
     }
 
     // Ends the output of the client in this place, once, if all was sent. False: the socket failed.
-    fn end_output(&mut self, slot: usize) -> bool {
+    fn end_output(&mut self, slot: usize) -> bool
+        ensures others { OthersStay slot self.old.clients.items self.new.clients.items }
+        ensures worlds { self.new.worlds ≡ self.old.worlds }
+    {
         if slot >= self.clients.len() {
             return true;
         }
@@ -233,7 +270,10 @@ impl<S: Socket + Drop, B: Backing + Drop, P: Process, V: Service<B, P>> Places<S
     }
 
     // Awaits the peer's end of the client in this place, whose output was ended.
-    fn drain(&mut self, slot: usize, piece: &mut [u8]) -> Step {
+    fn drain(&mut self, slot: usize, piece: &mut [u8]) -> Step
+        ensures others { OthersStay slot self.old.clients.items self.new.clients.items }
+        ensures worlds { self.new.worlds ≡ self.old.worlds }
+    {
         if self.drop_input(slot, piece) {
             return Step::Over;
         }
@@ -245,7 +285,10 @@ impl<S: Socket + Drop, B: Backing + Drop, P: Process, V: Service<B, P>> Places<S
 
     // Drops input of the client in this place, whose output was ended. True: its peer's end was
     // read, or its socket failed.
-    fn drop_input(&mut self, slot: usize, piece: &mut [u8]) -> bool {
+    fn drop_input(&mut self, slot: usize, piece: &mut [u8]) -> bool
+        ensures others { OthersStay slot self.old.clients.items self.new.clients.items }
+        ensures worlds { self.new.worlds ≡ self.old.worlds }
+    {
         if slot >= self.clients.len() {
             return true;
         }
@@ -295,8 +338,8 @@ fn end<S: Socket, B: Backing + Drop, P: Process, V: Service<B, P>>(
     service: &mut V,
     now: u64,
 )
-    ensures last { client.new.is_whole ≡ true → client.old.is_last ≡ true }
-    ensures given { client.new.is_whole ≡ true → client.old.input.asked ≤ client.old.input.given }
+    ensures whole { IsTrue client.new.is_whole ↔ (IsTrue client.old.is_last
+        × (client.old.input.asked ≤ client.old.input.given)) }
     ensures phase { client.new.phase ≡ Phase.Flushing }
     ensures socket { client.new.socket ≡ client.old.socket }
     ensures unsent { unsent_of client.new.output ≡ unsent_of client.old.output }
@@ -324,8 +367,8 @@ fn give_up<S: Socket, B: Backing + Drop, P: Process, V: Service<B, P>>(
 
 // Whether the request in progress was handed in whole, and is the last.
 fn is_done<S: Socket>(client: &Client<S>) -> bool
-    ensures last { result ≡ true → client.now.is_last ≡ true }
-    ensures given { result ≡ true → client.now.input.asked ≤ client.now.input.given }
+    ensures { IsTrue result ↔ (IsTrue client.now.is_last
+        × (client.now.input.asked ≤ client.now.input.given)) }
 {
     client.is_last() && client.is_given()
 }

@@ -1,5 +1,6 @@
 //! The effect of expired deadlines.
-ghost use Rattle.std.specs.Prelude.{◌≡◌, ◌<◌, ◌-◌, None};
+ghost use Rattle.std.specs.Prelude.{◌≡◌, ◌<◌, ◌≤◌, ◌-◌, None, IsTrue, OnOk, is_some, length};
+ghost use Rattle.iol_reactor.specs.Connections.{AreCurrent};
 
 use crate::client::{Client, Phase};
 use crate::engine::Engine;
@@ -111,6 +112,12 @@ impl<S: Socket + Drop, B: Backing + Drop, P: Process, V: Service<B, P>> Engine<S
         ensures alone { self.old.places.worlds.retiring ≡ None → self.new ≡ self.old }
         ensures early { self.old.now - self.old.renewed_at < self.old.limits.retire_millis →
             self.new ≡ self.old }
+        ensures generation { self.new.places.worlds.links.generation ≡
+            self.old.places.worlds.links.generation }
+        ensures ended { IsTrue (is_some self.old.places.worlds.retiring) →
+            self.old.limits.retire_millis ≤ self.old.now - self.old.renewed_at →
+            OnOk result (AreCurrent self.old.places.worlds.links.generation
+            (length self.old.places.clients.items) self.new.places.worlds.links.table.items) }
     {
         if !self.is_overdue() {
             return Ok(());

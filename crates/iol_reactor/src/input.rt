@@ -1,8 +1,9 @@
 //! The bytes that a client sent and for which the world has not responded yet.
-ghost use Rattle.std.specs.Prelude.{◌≡◌, ◌≢◌, ◌≤◌, ◌++◌, [], IfSome, drop, nat_le, nat_lt};
+ghost use Rattle.std.specs.Prelude.{◌≡◌, ◌≢◌, ◌≤◌, ◌++◌, ◌||◌, ◌&&◌, [], IfSome, drop, length};
+ghost use Rattle.std.specs.Prelude.{if◌then◌else◌, nat_le, nat_lt, true, false};
 ghost use Rattle.std.specs.Io.KnownBytes.{Keeps};
 ghost use Rattle.iol_reactor.specs.Bytes.{Gains, Grows, IsBegun, IsFinished, IsGiven, IsSameInput};
-ghost use Rattle.iol_reactor.specs.Bytes.{request_of};
+ghost use Rattle.iol_reactor.specs.Bytes.{can_read, has_room, request_of};
 
 use crate::limits::{MAX_BUFFERED, MIN_READ_BYTES};
 use crate::socket::Socket;
@@ -55,6 +56,9 @@ impl Input {
         ensures bytes { result.bytes.items ≡ [] }
         ensures asked { result.asked ≡ 0 }
         ensures given { result.given ≡ 0 }
+        ensures readable { result.readable ≡ false }
+        ensures ending { result.ending ≡ false }
+        ensures ended { result.ended ≡ false }
     {
         Input {
             alloc,
@@ -71,6 +75,8 @@ impl Input {
     pub fn note(&mut self, reads: bool, ends: bool)
         ensures same { IsSameInput self.old self.new }
         ensures ended { self.new.ended ≡ self.old.ended }
+        ensures readable { self.new.readable ≡ (self.old.readable || reads) }
+        ensures ending { self.new.ending ≡ (self.old.ending || ends) }
     {
         self.readable |= reads;
         self.ending |= ends;
@@ -84,12 +90,16 @@ impl Input {
     }
 
     /// Whether a read may return bytes, or the peer's end.
-    pub fn is_readable(&self) -> bool {
+    pub fn is_readable(&self) -> bool
+        ensures { result ≡ can_read self.now }
+    {
         (self.readable || self.ending) && !self.ended
     }
 
     /// The same, if there is room for more bytes.
-    pub fn may_read(&self) -> bool {
+    pub fn may_read(&self) -> bool
+        ensures { result ≡ (can_read self.now && has_room self.now) }
+    {
         self.is_readable() && self.bytes.len() < MAX_BUFFERED
     }
 
@@ -101,6 +111,9 @@ impl Input {
         ensures sent { Keeps (S.accepted socket.old) (S.accepted socket.new) }
         ensures asked { self.new.asked ≡ self.old.asked }
         ensures given { self.new.given ≡ self.old.given }
+        ensures end { result ≡ Reading.End → self.new.ended ≡ true }
+        ensures ended { result ≢ Reading.End → self.new.ended ≡ self.old.ended }
+        ensures empty { result ≡ Reading.Empty → can_read self.new ≡ false }
     {
         match self.room(piece.len()) {
             Some(room) => self.read_most(socket, &mut piece[..room]),
@@ -111,6 +124,9 @@ impl Input {
     // The number of bytes, at most this, for which there is memory after those that are buffered.
     fn room(&mut self, most: usize) -> Option<usize>
         ensures same { IsSameInput self.old self.new }
+        ensures readable { self.new.readable ≡ self.old.readable }
+        ensures ending { self.new.ending ≡ self.old.ending }
+        ensures ended { self.new.ended ≡ self.old.ended }
         ensures most { IfSome result (λ n. n ≤ most) }
     {
         if self.bytes.reserve(MIN_READ_BYTES).is_err() {
@@ -128,6 +144,9 @@ impl Input {
         ensures sent { Keeps (S.accepted socket.old) (S.accepted socket.new) }
         ensures asked { self.new.asked ≡ self.old.asked }
         ensures given { self.new.given ≡ self.old.given }
+        ensures end { result ≡ Reading.End → self.new.ended ≡ true }
+        ensures ended { result ≢ Reading.End → self.new.ended ≡ self.old.ended }
+        ensures empty { result ≡ Reading.Empty → can_read self.new ≡ false }
     {
         let room = piece.len();
         match socket.receive(piece) {
@@ -151,6 +170,8 @@ impl Input {
         ensures same { IsSameInput self.old self.new }
         ensures came { Grows (S.supplied socket.old) (S.supplied socket.new) }
         ensures sent { Keeps (S.accepted socket.old) (S.accepted socket.new) }
+        ensures ended { self.new.ended ≡ self.old.ended }
+        ensures empty { result ≡ Reading.Empty → can_read self.new ≡ false }
     {
         match socket.receive(piece) {
             Ok(0) => Reading::End,
@@ -170,8 +191,14 @@ impl Input {
     fn append(&mut self, bytes: &[u8], room: usize) -> Reading
         ensures bytes { result ≢ Reading.Failed →
             self.new.bytes.items ≡ self.old.bytes.items ++ bytes.now }
+        ensures end { result ≢ Reading.End }
+        ensures empty { result ≢ Reading.Empty }
         ensures asked { self.new.asked ≡ self.old.asked }
         ensures given { self.new.given ≡ self.old.given }
+        ensures readable { self.new.readable ≡
+            (if nat_lt (length bytes.now) room then self.old.ending else self.old.readable) }
+        ensures ending { self.new.ending ≡ self.old.ending }
+        ensures ended { self.new.ended ≡ self.old.ended }
     {
         if bytes.len() < room {
             self.readable = self.ending;

@@ -2,7 +2,8 @@
 ghost use Rattle.std.specs.Prelude.{◌≡◌, ◌+◌, ◌++◌, ◌∷◌, ◌==◌, [], None, Some, true, false, set};
 ghost use Rattle.std.specs.Prelude.{IfOk, OnErr, OnOk, ◌<◌, ◌≤◌, ◌⊎◌, count_by, is_some, length};
 ghost use Rattle.std.specs.Prelude.{if◌then◌else◌};
-ghost use Rattle.iol_reactor.specs.Connections.{AreApart, HaveCome, is_current, is_earlier, link_at};
+ghost use Rattle.iol_reactor.specs.Connections.{AreApart, HaveCome, is_current, is_earlier};
+ghost use Rattle.iol_reactor.specs.Connections.{link_at};
 
 use iol_core::numbers::ConnId;
 use std::alloc::{AllocError, Global};
@@ -169,7 +170,8 @@ impl Links {
         ensures full { result ≡ false → self.old.generation ≡ 18446744073709551615 }
         ensures room { result ≡ true → self.old.generation < 18446744073709551615 }
         ensures last { result ≡ true → self.new.last ≡ 0 }
-        ensures earlier { result ≡ true → count_by (is_earlier self.new.generation) self.new.table.items ≡
+        ensures earlier { result ≡ true →
+            count_by (is_earlier self.new.generation) self.new.table.items ≡
             count_by is_some self.old.table.items }
     {
         if self.generation == u64::MAX {

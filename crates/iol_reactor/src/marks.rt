@@ -1,4 +1,5 @@
 //! The lists and the queues of deadlines that a client is in.
+ghost use Rattle.std.specs.Prelude.{◌≡◌, false, None};
 
 /// The queues of deadlines in which a client has an entry.
 #[derive(Clone, Copy, Debug, PartialEq, Eq)]
@@ -31,7 +32,15 @@ pub struct Marks {
 
 impl Marks {
     /// A new client is in no list.
-    pub fn new(serial: u64) -> Marks {
+    pub fn new(serial: u64) -> Marks
+        ensures serial { result.serial ≡ serial }
+        ensures ready { result.is_ready ≡ false }
+        ensures pending { result.is_pending ≡ false }
+        ensures armed { result.armed ≡
+            record { head = false; rate = false; drain = false; park = false } }
+        ensures since { result.head_since ≡ None }
+        ensures accepted { result.rate_mark ≡ 0 }
+    {
         Marks {
             serial,
             is_ready: false,

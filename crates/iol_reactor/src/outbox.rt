@@ -1,5 +1,5 @@
 //! Bytes of a connection that are sent together.
-ghost use Rattle.std.specs.Prelude.{◌≡◌, []};
+ghost use Rattle.std.specs.Prelude.{◌≡◌, [], IfOk};
 
 use std::alloc::{AllocError, Global};
 use std::io;
@@ -14,7 +14,10 @@ pub struct Outbox {
 }
 
 impl Outbox {
-    pub fn new(alloc: Global, most: usize) -> Result<Outbox, AllocError> {
+    pub fn new(alloc: Global, most: usize) -> Result<Outbox, AllocError>
+        ensures most { IfOk result (λ outbox. outbox.most ≡ most) }
+        ensures empty { IfOk result (λ outbox. outbox.bytes.items ≡ []) }
+    {
         let bytes = Vec::with_capacity(alloc, most)?;
         Ok(Outbox { bytes, most })
     }
@@ -34,11 +37,19 @@ impl Outbox {
 }
 
 impl Write for Outbox {
-    ghost use Rattle.std.specs.Prelude.{Some};
+    ghost use Rattle.std.specs.Prelude.{◌-◌, Some, length, min};
+    ghost use Rattle.std.specs.Io.{WritesAtMost};
+    ghost use Rattle.std.specs.Io.KnownBytes.{WriteAppends};
 
     ghost contents = { λ outbox. Some outbox.bytes.items };
 
-    fn write(&mut self, buf: &[u8]) -> io::Result<usize> {
+    fn write(&mut self, buf: &[u8]) -> io::Result<usize>
+        ensures bound { WritesAtMost result buf.now }
+        ensures bytes { WriteAppends (Some self.old.bytes.items) (Some self.new.bytes.items) result
+            buf.now }
+        ensures count { IfOk result (λ n. n ≡ min (length buf.now)
+            (self.old.most - length self.old.bytes.items)) }
+    {
         let room = self.most.saturating_sub(self.bytes.len());
         let taken = buf.len().min(room);
         self.bytes.extend_from_slice(&buf[..taken])?;

@@ -1,5 +1,6 @@
 //! The bytes of a response that the world sent and that a client has not accepted yet.
-ghost use Rattle.std.specs.Prelude.{◌≡◌, ◌≢◌, ◌≤◌, [], length, true, ◌++◌, take};
+ghost use Rattle.std.specs.Prelude.{◌≡◌, ◌≢◌, ◌≤◌, ◌+◌, ◌-◌, ◌^◌, ◌++◌, ◌↔◌, [], length, take};
+ghost use Rattle.std.specs.Prelude.{min, true, false, IsTrue, OnOk};
 ghost use Rattle.std.specs.Io.KnownBytes.{Appends, Keeps};
 ghost use Rattle.iol_reactor.specs.Bytes.{Passes, PassesSome, unsent_of};
 
@@ -65,13 +66,17 @@ impl Output {
     }
 
     /// Whether the socket accepted no more when it was last written to.
-    pub fn is_blocked(&self) -> bool {
+    pub fn is_blocked(&self) -> bool
+        ensures { result ≡ self.now.is_blocked }
+    {
         self.is_blocked
     }
 
     /// The socket was reported writable: whether that was awaited.
     pub fn unblock(&mut self) -> bool
-        ensures { unsent_of self.new ≡ unsent_of self.old }
+        ensures unsent { unsent_of self.new ≡ unsent_of self.old }
+        ensures awaited { result ≡ self.old.is_blocked }
+        ensures blocked { self.new.is_blocked ≡ false }
     {
         let was_blocked = self.is_blocked;
         self.is_blocked = false;
@@ -80,13 +85,15 @@ impl Output {
 
     /// Whether the socket accepted all bytes.
     pub fn is_flushed(&self) -> bool
-        ensures { result ≡ true → unsent_of self.now ≡ [] }
+        ensures { IsTrue result ↔ (unsent_of self.now ≡ []) }
     {
         self.at >= self.left.len()
     }
 
     /// The first bytes of the response.
-    pub fn head(&self) -> &[u8] {
+    pub fn head(&self) -> &[u8]
+        ensures { result.now ≡ self.now.head.items }
+    {
         &self.head
     }
 
@@ -97,23 +104,34 @@ impl Output {
     }
 
     /// The number of bytes of the response that the world sent.
-    pub fn produced(&self) -> u64 {
+    pub fn produced(&self) -> u64
+        ensures { result ≡ self.now.produced }
+    {
         self.produced
     }
 
     /// The number of bytes of the response that the socket accepted.
-    pub fn sent(&self) -> u64 {
+    pub fn sent(&self) -> u64
+        ensures { result ≡ self.now.sent }
+    {
         self.sent
     }
 
     /// The number of bytes of all responses that the socket accepted.
-    pub fn accepted(&self) -> u64 {
+    pub fn accepted(&self) -> u64
+        ensures { result ≡ self.now.accepted }
+    {
         self.accepted
     }
 
     /// A new response begins.
     pub fn begin(&mut self)
-        ensures { unsent_of self.new ≡ unsent_of self.old }
+        ensures unsent { unsent_of self.new ≡ unsent_of self.old }
+        ensures head { self.new.head.items ≡ [] }
+        ensures produced { self.new.produced ≡ 0 }
+        ensures sent { self.new.sent ≡ 0 }
+        ensures accepted { self.new.accepted ≡ self.old.accepted }
+        ensures blocked { self.new.is_blocked ≡ self.old.is_blocked }
     {
         self.head.clear();
         self.produced = 0;
@@ -126,6 +144,11 @@ impl Output {
             (unsent_of self.old) (unsent_of self.new) }
         ensures all { result ≡ Sending.All → unsent_of self.new ≡ [] }
         ensures came { Keeps (S.supplied socket.old) (S.supplied socket.new) }
+        ensures sent { self.new.sent ≡ min (self.old.sent + (length (unsent_of self.old)
+            - length (unsent_of self.new))) (2 ^ 64 - 1) }
+        ensures accepted { self.new.accepted ≡ min (self.old.accepted
+            + (length (unsent_of self.old) - length (unsent_of self.new))) (2 ^ 64 - 1) }
+        ensures blocked { IsTrue self.new.is_blocked ↔ (result ≡ Sending.Blocked) }
     {
         let waiting = &self.left[self.at.min(self.left.len())..];
         let count = waiting.len();
@@ -146,6 +169,7 @@ impl Output {
     pub fn room(&mut self) -> u32
         ensures same { unsent_of self.new ≡ unsent_of self.old }
         ensures none { result ≢ 0 → unsent_of self.old ≡ [] }
+        ensures most { result ≤ QUEUE }
     {
         if !self.is_flushed() {
             return 0;
@@ -179,6 +203,13 @@ impl Output {
             (S.accepted socket.new) bytes.now (unsent_of self.new) }
         ensures some { PassesSome (S.accepted socket.old) (S.accepted socket.new) bytes.now }
         ensures came { Keeps (S.supplied socket.old) (S.supplied socket.new) }
+        ensures all { result ≡ Sending.All → unsent_of self.new ≡ [] }
+        ensures sent { result ≢ Sending.Failed → self.new.sent ≡ min (self.old.sent
+            + (length bytes.now - length (unsent_of self.new))) (2 ^ 64 - 1) }
+        ensures accepted { result ≢ Sending.Failed → self.new.accepted ≡ min (self.old.accepted
+            + (length bytes.now - length (unsent_of self.new))) (2 ^ 64 - 1) }
+        ensures free { result ≡ Sending.All → self.new.is_blocked ≡ false }
+        ensures blocked { result ≡ Sending.Blocked → self.new.is_blocked ≡ true }
     {
         if self.show(bytes).is_err() {
             return Sending::Failed;
@@ -209,13 +240,11 @@ impl Output {
         ensures sent { Appends (S.accepted socket.old) (S.accepted socket.new)
             (take result (first.now ++ second.now ++ third.now ++ fourth.now)) }
         ensures came { Keeps (S.supplied socket.old) (S.supplied socket.new) }
+        ensures counts { self.new.sent ≡ min (self.old.sent + result) (2 ^ 64 - 1) }
+        ensures accepted { self.new.accepted ≡ min (self.old.accepted + result) (2 ^ 64 - 1) }
+        ensures blocked { self.new.is_blocked ≡ self.old.is_blocked }
     {
-        if self.reserve().is_err() {
-            return 0;
-        }
-        let Ok(accepted) = socket.send_pieces(first, second, third, fourth) else {
-            return 0;
-        };
+        let accepted = self.send_pieces(socket, first, second, third, fourth);
         let left = self.show_first(first, accepted);
         let left = self.show_first(second, left);
         let left = self.show_first(third, left);
@@ -224,11 +253,44 @@ impl Output {
         accepted
     }
 
+    // Writes the first bytes of pieces, if there is memory for those that an exchange shows.
+    // Returns their number.
+    fn send_pieces<S: Socket>(
+        &mut self,
+        socket: &mut S,
+        first: &[u8],
+        second: &[u8],
+        third: &[u8],
+        fourth: &[u8],
+    ) -> usize
+        ensures most { result ≤ length (first.now ++ second.now ++ third.now ++ fourth.now) }
+        ensures taken { Appends (S.accepted socket.old) (S.accepted socket.new)
+            (take result (first.now ++ second.now ++ third.now ++ fourth.now)) }
+        ensures came { Keeps (S.supplied socket.old) (S.supplied socket.new) }
+        ensures left { self.new.left.items ≡ self.old.left.items }
+        ensures at { self.new.at ≡ self.old.at }
+        ensures sent { self.new.sent ≡ self.old.sent }
+        ensures accepted { self.new.accepted ≡ self.old.accepted }
+        ensures blocked { self.new.is_blocked ≡ self.old.is_blocked }
+    {
+        if self.reserve().is_err() {
+            return 0;
+        }
+        let Ok(accepted) = socket.send_pieces(first, second, third, fourth) else {
+            return 0;
+        };
+        accepted
+    }
+
     // Keeps the part of the first bytes of a piece that an exchange shows, for which there is
     // memory. Returns how many of this number are of the next pieces.
     fn show_first(&mut self, piece: &[u8], accepted: usize) -> usize
         ensures left { self.new.left.items ≡ self.old.left.items }
         ensures at { self.new.at ≡ self.old.at }
+        ensures sent { self.new.sent ≡ self.old.sent }
+        ensures accepted { self.new.accepted ≡ self.old.accepted }
+        ensures blocked { self.new.is_blocked ≡ self.old.is_blocked }
+        ensures rest { result ≡ accepted - length piece.now }
     {
         let count = accepted.min(piece.len());
         if count > 0 {
@@ -241,6 +303,9 @@ impl Output {
     fn reserve(&mut self) -> Result<(), AllocError>
         ensures left { self.new.left.items ≡ self.old.left.items }
         ensures at { self.new.at ≡ self.old.at }
+        ensures sent { self.new.sent ≡ self.old.sent }
+        ensures accepted { self.new.accepted ≡ self.old.accepted }
+        ensures blocked { self.new.is_blocked ≡ self.old.is_blocked }
     {
         self.head
             .reserve(HEAD_BYTES.saturating_sub(self.head.len()))
@@ -250,6 +315,9 @@ impl Output {
     fn count(&mut self, accepted: usize)
         ensures left { self.new.left.items ≡ self.old.left.items }
         ensures at { self.new.at ≡ self.old.at }
+        ensures sent { self.new.sent ≡ min (self.old.sent + accepted) (2 ^ 64 - 1) }
+        ensures accepted { self.new.accepted ≡ min (self.old.accepted + accepted) (2 ^ 64 - 1) }
+        ensures blocked { self.new.is_blocked ≡ self.old.is_blocked }
     {
         self.sent = self.sent.saturating_add(accepted as u64);
         self.accepted = self.accepted.saturating_add(accepted as u64);
@@ -259,21 +327,33 @@ impl Output {
     fn show(&mut self, bytes: &[u8]) -> Result<(), AllocError>
         ensures left { self.new.left.items ≡ self.old.left.items }
         ensures at { self.new.at ≡ self.old.at }
+        ensures sent { self.new.sent ≡ self.old.sent }
+        ensures accepted { self.new.accepted ≡ self.old.accepted }
+        ensures blocked { self.new.is_blocked ≡ self.old.is_blocked }
+        ensures head { OnOk result (self.new.head.items ≡ self.old.head.items
+            ++ take (HEAD_BYTES - length self.old.head.items) bytes.now) }
+        ensures produced { OnOk result (self.new.produced ≡
+            min (self.old.produced + length bytes.now) (2 ^ 64 - 1)) }
     {
         let room = HEAD_BYTES.saturating_sub(self.head.len());
         self.head
             .extend_from_slice(&bytes[..room.min(bytes.len())])?;
         self.produced = self.produced.saturating_add(bytes.len() as u64);
-        let last = &bytes[bytes.len().saturating_sub(TAIL_BYTES)..];
-        if last.len() == TAIL_BYTES {
-            self.tail.copy_from_slice(last);
-            return Ok(());
-        }
-        for byte in last {
-            self.tail.rotate_left(1);
-            self.tail[TAIL_BYTES - 1] = *byte;
-        }
+        keep_last(&mut self.tail, bytes);
         Ok(())
+    }
+}
+
+// Keeps the last bytes of those that were kept before and these.
+fn keep_last(tail: &mut [u8; TAIL_BYTES], bytes: &[u8]) {
+    let last = &bytes[bytes.len().saturating_sub(TAIL_BYTES)..];
+    if last.len() == TAIL_BYTES {
+        tail.copy_from_slice(last);
+        return;
+    }
+    for byte in last {
+        tail.rotate_left(1);
+        tail[TAIL_BYTES - 1] = *byte;
     }
 }
 
@@ -310,7 +390,10 @@ fn write_once<'a, S: Socket>(socket: &mut S, bytes: &'a [u8]) -> (Sending, &'a [
 }
 
 // The result of an error of a write.
-fn after(kind: ErrorKind) -> Sending {
+fn after(kind: ErrorKind) -> Sending
+    ensures blocked { (result ≡ Sending.Blocked) ↔ (kind ≡ ErrorKind.WouldBlock) }
+    ensures again { (result ≡ Sending.All) ↔ (kind ≡ ErrorKind.Interrupted) }
+{
     match kind {
         ErrorKind::WouldBlock => Sending::Blocked,
         ErrorKind::Interrupted => Sending::All,

@@ -1,12 +1,12 @@
 //! The clients in their places, and the worlds that serve them.
-ghost use Rattle.std.specs.Prelude.{◌≡◌, ◌≢◌, ◌<◌, [], length, get_or, None, Some, true, false, IfNone};
-ghost use Rattle.std.specs.Prelude.{IfOk, IfSome, ℕ, ◌≤◌, ◌++◌, ◌∷◌, ◌==◌, OnOk, OnErr, is_some};
+ghost use Rattle.std.specs.Prelude.{◌≡◌, ◌≢◌, ◌<◌, [], length, get_or, None, Some, true, false};
+ghost use Rattle.std.specs.Prelude.{IfNone, IfOk, IfSome, ◌≤◌, ◌++◌, ◌∷◌, ◌==◌, OnOk, OnErr, is_some};
 ghost use Rattle.std.specs.Prelude.{count_by, if◌then◌else◌};
 ghost use Rattle.iol_reactor.specs.Connections.{link_at};
 ghost use Rattle.iol_reactor.specs.LinkSteps.{WorldsTurnAt};
 ghost use Rattle.iol_reactor.specs.LinkVisits.{IsOver, serving};
 ghost use Rattle.iol_reactor.specs.Served.{AreFollowed, HasKnownHistory, HasSocketAt, IsEmpty};
-ghost use Rattle.iol_reactor.specs.Served.{IsFrameAt, IsPhaseAt, is_ending, is_free};
+ghost use Rattle.iol_reactor.specs.Served.{IsFrameAt, IsPhaseAt, OthersStay, is_ending, is_free};
 
 use crate::client::{Client, Phase};
 use crate::input::Reading;
@@ -77,7 +77,8 @@ impl<S: Socket + Drop, B: Backing + Drop, P: Process, V: Service<B, P>> Places<S
 
     /// The phase of the client in this place. `Over`: there is none.
     pub fn phase(&self, slot: usize) -> Phase
-        ensures { IsPhaseAt slot self.now.clients.items result }
+        ensures client { IsPhaseAt slot self.now.clients.items result }
+        ensures none { get_or self.now.clients.items slot None ≡ None → result ≡ Phase.Over }
     {
         match self.get(slot) {
             Some(client) => client.phase(),
@@ -102,11 +103,9 @@ impl<S: Socket + Drop, B: Backing + Drop, P: Process, V: Service<B, P>> Places<S
         requires accepted { IsEmpty (S.accepted socket) }
         ensures admits { slot < length self.old.clients.items → HasSocketAt socket slot
             self.new.clients.items }
-        ensures others { (j : ℕ) → j ≢ slot
-            → get_or self.new.clients.items j None ≡ get_or self.old.clients.items j None }
+        ensures others { OthersStay slot self.old.clients.items self.new.clients.items }
         ensures past { length self.old.clients.items ≤ slot →
             self.new.clients.items ≡ self.old.clients.items }
-        ensures places { length self.new.clients.items ≡ length self.old.clients.items }
     {
         self.worlds.release(slot);
         if slot < self.clients.len() {
@@ -119,9 +118,7 @@ impl<S: Socket + Drop, B: Backing + Drop, P: Process, V: Service<B, P>> Places<S
     pub fn remove(&mut self, slot: usize) -> Option<Client<S>>
         ensures client { result ≡ get_or self.old.clients.items slot None }
         ensures removed { get_or self.new.clients.items slot None ≡ None }
-        ensures others { (j : ℕ) → j ≢ slot
-            → get_or self.new.clients.items j None ≡ get_or self.old.clients.items j None }
-        ensures places { length self.new.clients.items ≡ length self.old.clients.items }
+        ensures others { OthersStay slot self.old.clients.items self.new.clients.items }
         ensures worlds { self.new.worlds ≡ self.old.worlds }
         ensures history { IfSome result (λ c. HasKnownHistory P.turns V.starts V.frames
             V.POOL S.supplied S.accepted c) }
@@ -176,7 +173,10 @@ impl<S: Socket + Drop, B: Backing + Drop, P: Process, V: Service<B, P>> Places<S
     }
 
     /// The socket of the client in this place was reported ready. Whether it is to be looked at.
-    pub fn note(&mut self, slot: usize, reads: bool, ends: bool, writes: bool) -> bool {
+    pub fn note(&mut self, slot: usize, reads: bool, ends: bool, writes: bool) -> bool
+        ensures others { OthersStay slot self.old.clients.items self.new.clients.items }
+        ensures worlds { self.new.worlds ≡ self.old.worlds }
+    {
         if slot >= self.clients.len() {
             return false;
         }
@@ -188,7 +188,10 @@ impl<S: Socket + Drop, B: Backing + Drop, P: Process, V: Service<B, P>> Places<S
 
     /// Reads once from the socket of the client in this place, if it may have bytes that are used.
     /// If it failed, the client is over.
-    pub fn read(&mut self, slot: usize, piece: &mut [u8], now: u64) -> Reading {
+    pub fn read(&mut self, slot: usize, piece: &mut [u8], now: u64) -> Reading
+        ensures others { OthersStay slot self.old.clients.items self.new.clients.items }
+        ensures worlds { self.new.worlds ≡ self.old.worlds }
+    {
         if slot >= self.clients.len() {
             return Reading::Failed;
         }
@@ -218,7 +221,10 @@ impl<S: Socket + Drop, B: Backing + Drop, P: Process, V: Service<B, P>> Places<S
     }
 
     /// The client in this place waits for a connection, if it has no request in progress.
-    pub fn wait(&mut self, slot: usize) {
+    pub fn wait(&mut self, slot: usize)
+        ensures others { OthersStay slot self.old.clients.items self.new.clients.items }
+        ensures worlds { self.new.worlds ≡ self.old.worlds }
+    {
         if slot >= self.clients.len() {
             return;
         }
@@ -233,7 +239,10 @@ impl<S: Socket + Drop, B: Backing + Drop, P: Process, V: Service<B, P>> Places<S
     }
 
     /// The client in this place need not wait for a connection any more. Whether it did.
-    pub fn call(&mut self, slot: usize) -> bool {
+    pub fn call(&mut self, slot: usize) -> bool
+        ensures others { OthersStay slot self.old.clients.items self.new.clients.items }
+        ensures worlds { self.new.worlds ≡ self.old.worlds }
+    {
         if slot >= self.clients.len() {
             return false;
         }
@@ -267,6 +276,8 @@ impl<S: Socket + Drop, B: Backing + Drop, P: Process, V: Service<B, P>> Places<S
     /// This first request of a client that has a connection begins.
     pub fn begin(&mut self, slot: usize, frame: &Frame)
         requires { IsFrameAt V.frames slot self.old.clients.items frame.now }
+        ensures others { OthersStay slot self.old.clients.items self.new.clients.items }
+        ensures worlds { self.new.worlds ≡ self.old.worlds }
     {
         if slot >= self.clients.len() || !self.worlds.has_link(slot) {
             return;
@@ -287,7 +298,9 @@ impl<S: Socket + Drop, B: Backing + Drop, P: Process, V: Service<B, P>> Places<S
 
     /// Hands in more of the request in progress of the client in this place. False: there is no
     /// room for all of it now.
-    pub fn hand_in(&mut self, slot: usize) -> bool {
+    pub fn hand_in(&mut self, slot: usize) -> bool
+        ensures others { OthersStay slot self.old.clients.items self.new.clients.items }
+    {
         if slot >= self.clients.len() {
             return true;
         }
@@ -310,7 +323,9 @@ impl<S: Socket + Drop, B: Backing + Drop, P: Process, V: Service<B, P>> Places<S
 
     /// The client in this place gives back its connection, if it has no request in progress: the
     /// world gets the end of its input.
-    pub fn leave(&mut self, slot: usize) {
+    pub fn leave(&mut self, slot: usize)
+        ensures others { OthersStay slot self.old.clients.items self.new.clients.items }
+    {
         if slot >= self.clients.len() {
             return;
         }
@@ -329,6 +344,8 @@ impl<S: Socket + Drop, B: Backing + Drop, P: Process, V: Service<B, P>> Places<S
     /// request to hand in. It has no connection: the rest of its output is sent.
     pub fn end_input(&mut self, slot: usize, frame: &Frame)
         requires { IsFrameAt V.frames slot self.old.clients.items frame.now }
+        ensures others { OthersStay slot self.old.clients.items self.new.clients.items }
+        ensures worlds { self.new.worlds ≡ self.old.worlds }
     {
         if slot >= self.clients.len() || self.worlds.has_link(slot) {
             return;

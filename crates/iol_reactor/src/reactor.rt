@@ -46,7 +46,8 @@ impl<B: Backing + Drop, P: Process, V: Service<B, P>> Reactor<TcpListener, B, P,
     ) -> io::Result<Reactor<TcpListener, B, P, V>>
         requires { V.starts world }
         ensures left { IfOk result (λ reactor. reactor.acceptor.left ≡ limits.stop_after) }
-        ensures world { IfOk result (λ reactor. reactor.engine.places.worlds.current.world ≡ world) }
+        ensures world { IfOk result
+            (λ reactor. reactor.engine.places.worlds.current.world ≡ world) }
         ensures limits { IfOk result (λ reactor. reactor.engine.limits ≡ limits) }
         ensures empty { IfOk result (λ reactor. reactor.engine.places.clients.items ≡ []) }
     {
@@ -286,8 +287,8 @@ where
         }
     }
 
-    // If the time for that has come, lets the service write its records, and asks it for a new world
-    // unless one is retiring.
+    // If the time for that has come, lets the service write its records, and asks it for a new
+    // world unless one is retiring.
     fn renew(&mut self, service: &mut V)
         ensures { self.new.acceptor ≡ self.old.acceptor }
     {

@@ -1,5 +1,5 @@
 //! Memory for all clients, which is reserved before the first comes.
-ghost use Rattle.std.specs.Prelude.{◌≡◌, [], IfOk};
+ghost use Rattle.std.specs.Prelude.{◌≡◌, [], IfOk, length};
 
 use crate::client::Client;
 use crate::limits::{Limits, READ_BYTES};
@@ -33,6 +33,8 @@ impl<S: Drop> Room<S> {
     pub fn new(alloc: Global, limits: &Limits) -> Result<Room<S>, AllocError>
         ensures clients { IfOk result (λ room. room.clients.items ≡ []) }
         ensures free { IfOk result (λ room. room.free.items ≡ []) }
+        ensures piece { IfOk result (λ room. length room.piece.items ≡ READ_BYTES) }
+        ensures outbox { IfOk result (λ room. room.outbox.most ≡ QUEUE) }
     {
         let most = limits.max_clients;
         Ok(Room {

@@ -1,4 +1,7 @@
 //! A round: the work between two polls of the sockets.
+ghost use Rattle.std.specs.Prelude.{◌≡◌, ◌++◌, ◌∷◌, [], None, OnOk, get_or, is_some, if◌then◌else◌};
+ghost use Rattle.iol_reactor.specs.Served.{OthersStay};
+
 use crate::client::Phase;
 use crate::engine::Engine;
 use crate::exchange::{Moment, Step};
@@ -226,7 +229,16 @@ impl<S: Socket + Drop, B: Backing + Drop, P: Process, V: Service<B, P>> Engine<S
     }
 
     // A client is removed.
-    fn forget(&mut self, slot: usize) -> Result<(), AllocError> {
+    fn forget(&mut self, slot: usize) -> Result<(), AllocError>
+        ensures removed { get_or self.new.places.clients.items slot None ≡ None }
+        ensures others { OthersStay slot self.old.places.clients.items
+            self.new.places.clients.items }
+        ensures worlds { self.new.places.worlds ≡ self.old.places.worlds }
+        ensures free { OnOk result (self.new.free.items ≡
+            (if is_some (get_or self.old.places.clients.items slot None)
+            then self.old.free.items ++ slot ∷ []
+            else self.old.free.items)) }
+    {
         if self.places.remove(slot).is_some() {
             if let Some(place) = self.marks.get_mut(slot) {
                 *place = None;

@@ -4,6 +4,7 @@ ghost use Rattle.std.specs.Io.KnownBytes.{Keeps};
 ghost use Rattle.iol_reactor.specs.Bytes.{Passes, PassesSome, unsent_of};
 ghost use Rattle.iol_reactor.specs.Connections.{link_at};
 ghost use Rattle.iol_reactor.specs.LinkVisits.{IsOver, serving};
+ghost use Rattle.iol_reactor.specs.Served.{OthersStay};
 
 use crate::client::{Client, Phase};
 use crate::outbox::Outbox;
@@ -40,7 +41,10 @@ pub enum Passed {
 
 impl<S: Socket + Drop, B: Backing + Drop, P: Process, V: Service<B, P>> Places<S, B, P, V> {
     /// Writes the bytes that the socket of the client in this place has not accepted yet.
-    pub fn flush(&mut self, slot: usize, now: u64) -> Sending {
+    pub fn flush(&mut self, slot: usize, now: u64) -> Sending
+        ensures others { OthersStay slot self.old.clients.items self.new.clients.items }
+        ensures worlds { self.new.worlds ≡ self.old.worlds }
+    {
         if slot >= self.clients.len() {
             return Sending::Failed;
         }
@@ -58,9 +62,11 @@ impl<S: Socket + Drop, B: Backing + Drop, P: Process, V: Service<B, P>> Places<S
     /// Sends more of the world's output for the client in this place, of which nothing is left from
     /// before. If the socket fails, the client is over.
     pub fn pass_on(&mut self, outbox: &mut Outbox, slot: usize, now: u64) -> Passed
-        ensures { result ≡ Passed.Closed → IsOver (link_at self.new.worlds.links.table.items slot)
+        ensures closed { result ≡ Passed.Closed →
+            IsOver (link_at self.new.worlds.links.table.items slot)
             (serving self.new.worlds.links.generation self.new.worlds.current.world
             (λ h. h.world) self.new.worlds.retiring) }
+        ensures others { OthersStay slot self.old.clients.items self.new.clients.items }
     {
         match self.offer(slot, now) {
             Passed::Blocked => self.pass_rest(outbox, slot, now),
@@ -71,9 +77,11 @@ impl<S: Socket + Drop, B: Backing + Drop, P: Process, V: Service<B, P>> Places<S
     // Sends the rest of what its socket was offered. The processes may have waited for room in the
     // queue until now, so there may be more even if the socket accepts all.
     fn pass_rest(&mut self, outbox: &mut Outbox, slot: usize, now: u64) -> Passed
-        ensures { result ≡ Passed.Closed → IsOver (link_at self.new.worlds.links.table.items slot)
+        ensures closed { result ≡ Passed.Closed →
+            IsOver (link_at self.new.worlds.links.table.items slot)
             (serving self.new.worlds.links.generation self.new.worlds.current.world
             (λ h. h.world) self.new.worlds.retiring) }
+        ensures others { OthersStay slot self.old.clients.items self.new.clients.items }
     {
         match self.collect(outbox, slot, now) {
             Passed::All => Passed::Part,
@@ -84,9 +92,11 @@ impl<S: Socket + Drop, B: Backing + Drop, P: Process, V: Service<B, P>> Places<S
     // Offers the world's output for the client in this place to its socket, from the pages that
     // hold it. `Blocked`: the socket took fewer bytes than it was offered.
     fn offer(&mut self, slot: usize, now: u64) -> Passed
-        ensures { result ≡ Passed.Closed → IsOver (link_at self.new.worlds.links.table.items slot)
+        ensures closed { result ≡ Passed.Closed →
+            IsOver (link_at self.new.worlds.links.table.items slot)
             (serving self.new.worlds.links.generation self.new.worlds.current.world
             (λ h. h.world) self.new.worlds.retiring) }
+        ensures others { OthersStay slot self.old.clients.items self.new.clients.items }
     {
         if slot >= self.clients.len() || !self.worlds.has_link(slot) {
             return Passed::Failed;
@@ -110,9 +120,11 @@ impl<S: Socket + Drop, B: Backing + Drop, P: Process, V: Service<B, P>> Places<S
     // Collects the world's output for the client in this place, and sends it as far as its socket
     // accepts it. The rest is kept with the client.
     fn collect(&mut self, outbox: &mut Outbox, slot: usize, now: u64) -> Passed
-        ensures { result ≡ Passed.Closed → IsOver (link_at self.new.worlds.links.table.items slot)
+        ensures closed { result ≡ Passed.Closed →
+            IsOver (link_at self.new.worlds.links.table.items slot)
             (serving self.new.worlds.links.generation self.new.worlds.current.world
             (λ h. h.world) self.new.worlds.retiring) }
+        ensures others { OthersStay slot self.old.clients.items self.new.clients.items }
     {
         if slot >= self.clients.len() || !self.worlds.has_link(slot) {
             return Passed::Failed;

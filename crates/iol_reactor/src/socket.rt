@@ -1,5 +1,6 @@
 //! Sockets of clients.
-ghost use Rattle.std.specs.Prelude.{ℕ, List, Option, None, ◌++◌};
+ghost use Rattle.std.specs.Prelude.{ℕ, List, Option, None, ◌++◌, ◌≡◌};
+ghost use Rattle.std.specs.Io.Slices.{io_slices_bytes};
 ghost use Rattle.std.specs.Io.{ReadsAtMost, WritesAtMost};
 ghost use Rattle.std.specs.Io.KnownBytes.{Keeps, WriteAppends};
 ghost use Rattle.iol_reactor.specs.Bytes.{Supplies};
@@ -65,16 +66,27 @@ impl Socket for TcpStream {
         third: &[u8],
         fourth: &[u8],
     ) -> io::Result<usize> {
-        let pieces = [
-            IoSlice::new(first),
-            IoSlice::new(second),
-            IoSlice::new(third),
-            IoSlice::new(fourth),
-        ];
-        TcpStream::write_vectored(self, &pieces)
+        TcpStream::write_vectored(self, &slices_of(first, second, third, fourth))
     }
 
     fn end_output(&mut self) -> io::Result<()> {
         self.shutdown(Shutdown::Write)
     }
+}
+
+// These pieces, in order.
+fn slices_of<'a>(
+    first: &'a [u8],
+    second: &'a [u8],
+    third: &'a [u8],
+    fourth: &'a [u8],
+) -> [IoSlice<'a>; 4]
+    ensures { io_slices_bytes result ≡ first.now ++ second.now ++ third.now ++ fourth.now }
+{
+    [
+        IoSlice::new(first),
+        IoSlice::new(second),
+        IoSlice::new(third),
+        IoSlice::new(fourth),
+    ]
 }

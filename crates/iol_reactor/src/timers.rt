@@ -1,5 +1,6 @@
 //! The queues of deadlines, one for each limit.
 ghost use Rattle.std.specs.Prelude.{◌≡◌, ◌/◌, [], IfOk, max};
+ghost use Rattle.iol_reactor.specs.Deadlines.{earlier_of, first_of};
 
 use crate::deadlines::Deadlines;
 use crate::limits::Limits;
@@ -32,6 +33,17 @@ fn interval_of(millis: u64) -> u64
     (millis / LOOKS).max(1)
 }
 
+/// The earlier of two times, or the only one.
+pub fn earlier(one: Option<u64>, other: Option<u64>) -> Option<u64>
+    ensures { result ≡ earlier_of one other }
+{
+    match (one, other) {
+        (Some(one), Some(other)) => Some(one.min(other)),
+        (Some(one), None) => Some(one),
+        (None, other) => other,
+    }
+}
+
 impl Timers {
     /// No deadline yet, and memory for one of each kind for all clients.
     pub fn new(alloc: Global, limits: &Limits) -> Result<Timers, AllocError>
@@ -57,14 +69,16 @@ impl Timers {
     }
 
     /// The first deadline.
-    pub fn first(&self) -> Option<u64> {
-        let queues = [
-            self.silences.first(),
-            self.heads.first(),
-            self.rates.first(),
-            self.drains.first(),
-            self.parks.first(),
-        ];
-        queues.into_iter().flatten().min()
+    pub fn first(&self) -> Option<u64>
+        ensures { result ≡ earlier_of (first_of self.now.silences.entries.items)
+            (earlier_of (first_of self.now.heads.entries.items)
+            (earlier_of (first_of self.now.rates.entries.items)
+            (earlier_of (first_of self.now.drains.entries.items)
+            (first_of self.now.parks.entries.items)))) }
+    {
+        let later = earlier(self.drains.first(), self.parks.first());
+        let later = earlier(self.rates.first(), later);
+        let later = earlier(self.heads.first(), later);
+        earlier(self.silences.first(), later)
     }
 }

@@ -1,7 +1,9 @@
 //! The order of process turns, and the end of a run of turns.
-ghost use Rattle.std.specs.Prelude.{◌≡◌, ◌≤◌, ◌<◌, ◌+◌, ◌&&◌, ◌||◌, None, Some, IfSome, max, nat_le};
-ghost use Rattle.std.specs.Prelude.{if◌then◌else◌, nat_lt};
+ghost use Rattle.std.specs.Prelude.{◌≡◌, ◌≤◌, ◌<◌, ◌+◌, ◌-◌, ◌^◌, ◌&&◌, ◌||◌, None, Some, IfSome};
+ghost use Rattle.std.specs.Prelude.{if◌then◌else◌, false, max, min, nat_le, nat_lt};
+ghost use Rattle.std.specs.Option.{unwrap_or};
 ghost use Rattle.std.proofs.Props.{props};
+ghost use Rattle.iol_reactor.specs.Turns.{place_after};
 
 use crate::limits::{RUN_MICROS, SLICE_MICROS, UNTIMED_TURNS};
 use iol_proc::activity::Activity;
@@ -57,6 +59,8 @@ impl Order {
         ensures count { result.count ≡ count }
         ensures place { result.place ≡ 0 }
         ensures idle_count { result.idle_count ≡ 0 }
+        ensures over { result.is_over ≡ false }
+        ensures yields { result.yields ≡ 0 }
         ensures resumes { result.resumes ≡
             (if nat_lt 0 next && nat_lt next count then Some next else None) }
     {
@@ -86,7 +90,8 @@ impl Order {
 
     /// The process with which the rounds continue.
     pub fn next(&self) -> usize
-        ensures { result < max self.entry.now.count 1 }
+        ensures within { result < max self.entry.now.count 1 }
+        ensures next { result ≡ unwrap_or self.entry.now.resumes self.entry.now.place }
     {
         self.resumes.unwrap_or(self.place)
     }
@@ -98,8 +103,8 @@ impl Order {
         self.count <= self.idle_count
     }
 
-    /// Whether the run ends: all processes are idle, or its time is over. It ends by time only after
-    /// a time slice of another process than the first, if there is one.
+    /// Whether the run ends: all processes are idle, or its time is over. It ends by time only
+    /// after a time slice of another process than the first, if there is one.
     pub fn is_over(&self) -> bool
         ensures { result ≡ (self.entry.now.is_over
             || nat_le self.entry.now.count self.entry.now.idle_count) }
@@ -116,8 +121,15 @@ impl Order {
         ensures idle_count { self.new.idle_count ≤ self.old.idle_count + 1 }
         ensures second_yield { self.new.idle_count ≡ self.old.idle_count + 1 →
             (activity ≡ Activity.Yields) × (1 ≤ self.old.yields) }
-        ensures first_yield { activity ≡ Activity.Yields → self.old.yields ≡ 0 → (self.new.idle_count ≡ self.old.idle_count)
-            × (self.new.place ≡ self.old.place) }
+        ensures first_yield { activity ≡ Activity.Yields → self.old.yields ≡ 0 →
+            (self.new.idle_count ≡ self.old.idle_count) × (self.new.place ≡ self.old.place) }
+        ensures resumed { activity ≡ Activity.Yields → 1 ≤ self.old.yields → IfSome self.old.resumes
+            (λ next. (self.new.place ≡ next) × (self.new.idle_count ≡ self.old.idle_count)) }
+        ensures next { activity ≡ Activity.Yields → 1 ≤ self.old.yields →
+            self.old.resumes ≡ None → self.new.place ≡ place_after self.old.place self.old.count }
+        ensures counted { activity ≡ Activity.Yields → 1 ≤ self.old.yields →
+            self.old.resumes ≡ None →
+            self.new.idle_count ≡ min (self.old.idle_count + 1) (2 ^ 64 - 1) }
     {
         match activity {
             Activity::Waits => {}
@@ -142,6 +154,12 @@ impl Order {
     fn count_idle(&mut self)
         ensures count { self.new.count ≡ self.old.count }
         ensures idle_count { self.new.idle_count ≤ self.old.idle_count + 1 }
+        ensures resumed { IfSome self.old.resumes
+            (λ next. (self.new.place ≡ next) × (self.new.idle_count ≡ self.old.idle_count)) }
+        ensures next { self.old.resumes ≡ None →
+            self.new.place ≡ place_after self.old.place self.old.count }
+        ensures counted { self.old.resumes ≡ None →
+            self.new.idle_count ≡ min (self.old.idle_count + 1) (2 ^ 64 - 1) }
     {
         if self.resumes.is_none() {
             self.idle_count = self.idle_count.saturating_add(1);
@@ -167,10 +185,8 @@ impl Order {
         ensures count { self.new.count ≡ self.old.count }
         ensures idle_count { self.new.idle_count ≡ self.old.idle_count }
         ensures resumed { IfSome self.old.resumes (λ next. self.new.place ≡ next) }
-        ensures next { self.old.resumes ≡ None → self.old.place + 1 < self.old.count
-            → self.new.place ≡ self.old.place + 1 }
-        ensures first { self.old.resumes ≡ None → self.old.count ≤ self.old.place + 1
-            → self.new.place ≡ 0 }
+        ensures next { self.old.resumes ≡ None →
+            self.new.place ≡ place_after self.old.place self.old.count }
         ensures resumes { self.new.resumes ≡ None }
         ensures yields { self.new.yields ≡ 0 }
     {

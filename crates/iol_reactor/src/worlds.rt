@@ -1,7 +1,7 @@
 //! The world for new requests, and the one in which earlier requests finish.
 ghost use Rattle.std.specs.Prelude.{◌≡◌, Bool, ◌++◌, ◌∷◌, ◌+◌, ◌==◌, List, ℕ, [], None, Some, true};
-ghost use Rattle.std.specs.Prelude.{false, IfSome, IsNone, is_some, set, OnErr, OnOk, length, ◌<◌, not, count_by, ◌≢◌};
-ghost use Rattle.std.specs.Prelude.{if◌then◌else◌, min, ◌^◌, ◌-◌};
+ghost use Rattle.std.specs.Prelude.{false, IfSome, IsNone, is_some, set, OnErr, OnOk, length, ◌<◌};
+ghost use Rattle.std.specs.Prelude.{count_by, ◌≢◌, if◌then◌else◌, min, nat_le, ◌^◌, ◌-◌, ◌↔◌};
 ghost use Rattle.std.specs.Io.KnownBytes.{Appends};
 ghost use Rattle.iol_core.specs.declared.descriptors.How.TheVariants as how;
 ghost use Rattle.iol_proc.specs.World.{copied};
@@ -71,6 +71,7 @@ impl<B: Backing + Drop, P: Process, V: Service<B, P>> Worlds<B, P, V> {
         ensures world { result.current.world ≡ world }
         ensures alone { result.retiring ≡ None }
         ensures links { result.links ≡ links }
+        ensures worn { result.is_worn ≡ false }
     {
         Worlds {
             links,
@@ -111,9 +112,8 @@ impl<B: Backing + Drop, P: Process, V: Service<B, P>> Worlds<B, P, V> {
 
     /// Whether the client in this place has a connection of an earlier world.
     pub fn is_outdated(&self, slot: usize) -> bool
-        ensures none { link_at self.now.links.table.items slot ≡ None → result ≡ false }
-        ensures link { IfSome (link_at self.now.links.table.items slot)
-            (λ l. result ≡ not (l.generation == self.now.links.generation)) }
+        ensures { result ≡ is_earlier self.now.links.generation
+            (link_at self.now.links.table.items slot) }
     {
         match self.links.get(slot) {
             Some(link) => !self.links.is_current(link),
@@ -147,6 +147,8 @@ impl<B: Backing + Drop, P: Process, V: Service<B, P>> Worlds<B, P, V> {
             then None
             else Some self.old.current) }
         ensures full { self.old.links.generation ≡ 18446744073709551615 → self.new ≡ self.old }
+        ensures worn { self.old.links.generation < 18446744073709551615 →
+            self.new.is_worn ≡ false }
         ensures table { self.new.links.table.items ≡ self.old.links.table.items }
         ensures visits { LinksStay P.turns V.starts V.POOL
             (serving self.old.links.generation self.old.current.world
@@ -168,6 +170,7 @@ impl<B: Backing + Drop, P: Process, V: Service<B, P>> Worlds<B, P, V> {
     // Drops the world before, if no client has a connection of an earlier world.
     fn retire(&mut self)
         ensures current { self.new.current ≡ self.old.current }
+        ensures worn { self.new.is_worn ≡ self.old.is_worn }
         ensures retiring { self.new.retiring ≡
             (if count_by (is_earlier self.old.links.generation) self.old.links.table.items == 0
             then None
@@ -190,6 +193,8 @@ impl<B: Backing + Drop, P: Process, V: Service<B, P>> Worlds<B, P, V> {
         ensures begun { result ≡ true → ((c : ℕ) × (link_at self.new.links.table.items slot ≡
             Some (record { conn = c; generation = self.new.links.generation }))
             × ∥ HasVisited P.turns V.starts V.POOL c [] [] false self.new.current.world ∥₁) }
+        ensures worn { result ≡ true → IfSome (link_at self.new.links.table.items slot)
+            (λ l. self.new.is_worn ≡ nat_le WORN_CONNECTION l.conn) }
         ensures given { result ≡ true → (c : ℕ) × (self.new.links.table.items ≡ set
             self.old.links.table.items slot
             (Some (record { conn = c; generation = self.new.links.generation }))) }
@@ -212,6 +217,7 @@ impl<B: Backing + Drop, P: Process, V: Service<B, P>> Worlds<B, P, V> {
     /// The client in this place gives up its connection, if it has one.
     pub fn release(&mut self, slot: usize)
         ensures table { self.new.links.table.items ≡ set self.old.links.table.items slot None }
+        ensures generation { self.new.links.generation ≡ self.old.links.generation }
         ensures current { self.new.current ≡ self.old.current }
         ensures serves { count_by (is_earlier self.new.links.generation) self.new.links.table.items
             ≢ 0 → self.new.retiring ≡ self.old.retiring }
@@ -468,7 +474,9 @@ impl<B: Backing + Drop, P: Process, V: Service<B, P>> Worlds<B, P, V> {
 
 // How the output of a connection was offered. None: it was closed.
 fn offered_of(drained: Option<Drained>) -> Offered
-    ensures { result ≡ Offered.Closed → IsNone drained }
+    ensures closed { (result ≡ Offered.Closed) ↔ IsNone drained }
+    ensures taken { IfSome drained (λ d. result ≡
+        (if d.failed then Offered.Part d.taken else Offered.All d.taken)) }
 {
     match drained {
         Some(drained) if drained.failed => Offered::Part(drained.taken),
@@ -479,7 +487,8 @@ fn offered_of(drained: Option<Drained>) -> Offered
 
 // How the output of a connection was collected. None: it was closed.
 fn outcome_of(taken: Option<u32>) -> Collected
-    ensures { result ≡ Collected.Closed → IsNone taken }
+    ensures closed { (result ≡ Collected.Closed) ↔ IsNone taken }
+    ensures bytes { IfSome taken (λ count. result ≡ Collected.Bytes count) }
 {
     match taken {
         Some(count) => Collected::Bytes(count),

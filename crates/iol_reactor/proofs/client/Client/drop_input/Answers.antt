@@ -1,4 +1,4 @@
-use Rattle.std.proofs.Common.{refl}
+use Rattle.std.proofs.Common.{◌∙◌, refl}
 use Rattle.iol_reactor.proofs.Bytes.{grows_none, grows_then, keeps_same, keeps_then, same_input_then}
 use Rattle.iol_reactor.proofs.client.Client.drop_input.Goals as goal
 
@@ -10,6 +10,9 @@ loop-init g c = record {
   whole = refl;
   phase = refl;
   output = refl;
+  ended = refl;
+  last = refl;
+  time = refl;
 }
 
 pub loop-preserved : goal.loop-preserved
@@ -20,6 +23,9 @@ loop-preserved g c = record {
   whole = c.loop.invariant.whole;
   phase = c.loop.invariant.phase;
   output = c.loop.invariant.output;
+  ended = c.drop_from.ensures.ended ∙ c.loop.invariant.ended;
+  last = c.loop.invariant.last;
+  time = c.loop.invariant.time;
 }
 
 pub returns-in-Empty-clause-same : goal.returns-in-Empty-clause-same

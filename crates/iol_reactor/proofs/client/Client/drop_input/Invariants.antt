@@ -11,4 +11,7 @@ invariant-loop g l = record {
   whole : l.self.is_whole ≡ l.fn.self.is_whole;
   phase : l.self.phase ≡ l.fn.self.phase;
   output : l.self.output ≡ l.fn.self.output;
+  ended : l.self.input.ended ≡ l.fn.self.input.ended;
+  last : l.self.is_last ≡ l.fn.self.is_last;
+  time : l.self.last ≡ l.fn.self.last;
 }

@@ -18,7 +18,7 @@ invariant_of-self-in-Flushing g c = record {
       (omega (arith, c.if-slot-len.false, c.len.ensures)) c.index_mut.ensures.value c.in-Some.is
       (λ h. closing_followed g.P.Process.turns g.V.Service.starts g.V.Service.frames _ g.S.Socket.supplied
       g.S.Socket.accepted _ _ c.in-Some.client c.end_output.new.self (sym c.phase.ensures ∙ c.in-Flushing.is)
-      (c.is_flushed.ensures (grind (arith, c.if-not-is_flushed.false)))
+      (c.is_flushed.ensures.0 (grind (arith, c.if-not-is_flushed.false)))
       (c.end_output.ensures.phase ∙ c.set_phase.ensures.phase)
       (keeps_after _ _ _ (ap (λ k. g.S.Socket.supplied k) c.set_phase.ensures.socket) c.end_output.ensures.came)
       (keeps_after _ _ _ (ap (λ k. g.S.Socket.accepted k) c.set_phase.ensures.socket) c.end_output.ensures.sent)

@@ -9,5 +9,5 @@ invariant_of-self g c = record {
       c.args.self.now.worlds.links.came
       (others_goes g.P.Process.turns g.V.Service.starts g.V.Service.frames _ _ _ _ _ _ _ c.hang_up.ensures.visits.1)
       (λ j _. links_rest _ _ c.hang_up.ensures.links j)
-      (λ m at. c.phase.ensures m at ∙ c.in-Over.is) c.args.self.now.followed;
+      (λ m at. c.phase.ensures.client m at ∙ c.in-Over.is) c.args.self.now.followed;
 }

@@ -43,7 +43,7 @@ invariant_of-self-in-Some g c = record {
       (subst (λ k. (k ≡ phase.Answering) ⊎ (k ≡ phase.Leaving)) c.phase.ensures
       (c.is_served.ensures (grind (arith, c.if-not-is_served.false)))) (sym c.has_link.ensures
       ∙ (grind (arith, c.if-not-has_link.false)))
-      (c.is_flushed.ensures (grind (arith, c.if-not-is_flushed.false))) refl refl refl refl refl refl
+      (c.is_flushed.ensures.0 (grind (arith, c.if-not-is_flushed.false))) refl refl refl refl refl refl
       c.offer-offered.ensures.visits.2 (links_rest _ _ c.offer-offered.ensures.links _)
       c.offer-offered.ensures.calls c.offer-offered.ensures.visits.1
       c.touch.ensures.output c.touch.ensures.socket c.touch.ensures.phase c.touch.ensures.input c.touch.ensures.last

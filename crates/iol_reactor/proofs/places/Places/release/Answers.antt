@@ -9,5 +9,5 @@ invariant_of-self g c = record {
       c.args.self.now.worlds.links.came
       (others_stay g.P.Process.turns g.V.Service.starts g.V.Service.frames _ _ _ _ c.release.ensures.visits)
       (λ j other. set_rest _ _ _ _ c.release.ensures.table j other)
-      (λ m at. c.phase.ensures m at ∙ c.in-Over.is) c.args.self.now.followed;
+      (λ m at. c.phase.ensures.client m at ∙ c.in-Over.is) c.args.self.now.followed;
 }

@@ -15,7 +15,7 @@ invariant_of-self-in-Answering g c = record {
       (omega (arith, c.if-slot-len.false, c.len.ensures)) c.index_mut.ensures.value c.in-Some.is
       (λ h. closed_followed g.P.Process.turns g.V.Service.starts g.V.Service.frames _ g.S.Socket.supplied
       g.S.Socket.accepted _ _ _ _ c.in-Some.client c.end.new.client (sym c.phase.ensures ∙ c.in-Answering.is)
-      c.requires c.end.ensures.last c.end.ensures.given c.end.ensures.phase c.end.ensures.socket
+      c.requires (λ h. (c.end.ensures.whole.0 h).0) (λ h. (c.end.ensures.whole.0 h).1) c.end.ensures.phase c.end.ensures.socket
       c.end.ensures.unsent h)
       c.args.self.now.followed;
 }
