@@ -1,7 +1,8 @@
 //! Reads a site from a folder, and again when it changes.
-ghost use Rattle.std.specs.Prelude.{◌≡◌, IfOk, None, OnErr};
-ghost use Rattle.flash_site.specs.Reads.{StaysUnlessRead};
-ghost use Rattle.flash_site.specs.World.{BeginsSite};
+ghost use Rattle.std.specs.Prelude.{◌≡◌, ◌⊎◌, IfOk, None, Ok, OnErr, OnOk, IsTrue, false, length, true};
+ghost use Rattle.iol_tree.specs.Store.{disk_of};
+ghost use Rattle.flash_site.specs.Reads.{IfRead, StaysUnlessRead, is_within};
+ghost use Rattle.flash_site.specs.World.{BeginsSite, BeginsSiteOf};
 
 use crate::site::world_of;
 use flash_lite::actor::Actor;
@@ -46,6 +47,7 @@ pub struct Loaded<R: Files> {
     pub world: World<TreeBacking<R>, Actor>,
     pub summary: Summary,
     ghost begins: { BeginsSite world },
+    ghost files: { BeginsSiteOf summary.files world },
     ghost honest: { world.machine.disk.honest ≡ summary.is_in_memory },
 }
 
@@ -84,16 +86,31 @@ impl<R: Files + Clock + AllocGlobal + Clone + Drop> Source<R> {
 
     /// Reads the site. If it changes while it is read, it is served from the folder.
     pub fn load(&mut self) -> io::Result<Loaded<R>>
-        ensures { OnErr result (self.new ≡ self.old) }
+        ensures err { OnErr result (self.new ≡ self.old) }
+        ensures root { self.new.root ≡ self.old.root }
+        ensures preload { self.new.preload ≡ self.old.preload }
+        ensures memory { IfOk result (λ loaded. IsTrue loaded.summary.is_in_memory
+            → IsTrue (is_within self.old.preload loaded.summary.bytes)) }
     {
         match self.load_steady()? {
             Some(loaded) => Ok(loaded),
-            None => {
-                let index = Index::of(&self.rt, self.root.as_str())?;
-                let store = self.on_disk(index.readable(&self.rt)?)?;
-                self.host(store, None)
-            }
+            None => self.load_changing(),
         }
+    }
+
+    // Serves the readable files from the folder, which changes.
+    fn load_changing(&mut self) -> io::Result<Loaded<R>>
+        ensures err { OnErr result (self.new ≡ self.old) }
+        ensures root { self.new.root ≡ self.old.root }
+        ensures preload { self.new.preload ≡ self.old.preload }
+        ensures folder { IfOk result (λ loaded. loaded.summary.is_in_memory ≡ false) }
+        ensures unread { OnOk result (self.new.index ≡ None) }
+    {
+        let found = Index::of(&self.rt, self.root.as_str())?;
+        let index = found.readable(&self.rt)?;
+        let bytes = index.total();
+        let store = self.on_disk(index)?;
+        self.host(store, bytes, None)
     }
 
     /// Reads the site again, if the folder changed since the last read, or if `is_forced`. None:
@@ -101,16 +118,33 @@ impl<R: Files + Clock + AllocGlobal + Clone + Drop> Source<R> {
     /// After None or an error the source is unchanged: the next call finds a change that was not
     /// read.
     pub fn renew(&mut self, is_forced: bool) -> io::Result<Option<Loaded<R>>>
-        ensures { StaysUnlessRead result self.old self.new }
+        ensures stays { StaysUnlessRead result self.old self.new }
+        ensures root { self.new.root ≡ self.old.root }
+        ensures preload { self.new.preload ≡ self.old.preload }
+        ensures memory { IfRead result (λ loaded. loaded.summary.is_in_memory
+            ≡ is_within self.old.preload loaded.summary.bytes) }
     {
-        if !is_forced && !self.is_young && self.is_same()? {
+        if !self.is_due(is_forced)? {
             return Ok(None);
         }
         self.load_steady()
     }
 
+    // Returns whether the site is to be read again.
+    fn is_due(&self, is_forced: bool) -> io::Result<bool>
+        ensures forced { (is_forced ≡ true) ⊎ (self.now.is_young ≡ true) → result ≡ Ok true }
+        ensures unread { self.now.index ≡ None → IfOk result (λ due. due ≡ true) }
+    {
+        if is_forced || self.is_young {
+            return Ok(true);
+        }
+        Ok(!self.is_same()?)
+    }
+
     // Returns whether the folder has the files of the last read, unchanged.
-    fn is_same(&self) -> io::Result<bool> {
+    fn is_same(&self) -> io::Result<bool>
+        ensures { self.now.index ≡ None → IfOk result (λ same. same ≡ false) }
+    {
         let now = Index::of(&self.rt, self.root.as_str())?;
         Ok(match &self.index {
             Some(index) => index.is_same(&now),
@@ -120,7 +154,11 @@ impl<R: Files + Clock + AllocGlobal + Clone + Drop> Source<R> {
 
     // Reads the site, unless it changes during each attempt.
     fn load_steady(&mut self) -> io::Result<Option<Loaded<R>>>
-        ensures { StaysUnlessRead result self.old self.new }
+        ensures stays { StaysUnlessRead result self.old self.new }
+        ensures root { self.new.root ≡ self.old.root }
+        ensures preload { self.new.preload ≡ self.old.preload }
+        ensures memory { IfRead result (λ loaded. loaded.summary.is_in_memory
+            ≡ is_within self.old.preload loaded.summary.bytes) }
     {
         for _ in 0..ATTEMPTS {
             if let Some(loaded) = self.load_once()? {
@@ -132,29 +170,45 @@ impl<R: Files + Clock + AllocGlobal + Clone + Drop> Source<R> {
 
     // Reads the site. None: the folder changed while it was read.
     fn load_once(&mut self) -> io::Result<Option<Loaded<R>>>
-        ensures { StaysUnlessRead result self.old self.new }
+        ensures stays { StaysUnlessRead result self.old self.new }
+        ensures root { self.new.root ≡ self.old.root }
+        ensures preload { self.new.preload ≡ self.old.preload }
+        ensures memory { IfRead result (λ loaded. loaded.summary.is_in_memory
+            ≡ is_within self.old.preload loaded.summary.bytes) }
     {
         let found = Index::of(&self.rt, self.root.as_str())?;
         let index = found.readable(&self.rt)?;
-        if self.fits(&index) {
-            self.load_memory(&found, index)
+        let bytes = index.total();
+        if self.fits(bytes) {
+            self.load_memory(&found, index, bytes)
         } else {
-            self.load_folder(&found, index)
+            self.load_folder(&found, index, bytes)
         }
     }
 
-    // Returns whether the files are read into memory.
-    fn fits(&self, index: &Index) -> bool {
+    // Returns whether this number of bytes is read into memory.
+    fn fits(&self, bytes: u64) -> bool
+        ensures { result ≡ is_within self.now.preload bytes }
+    {
         match self.preload {
-            Some(most) => index.total() <= most,
+            Some(most) => bytes <= most,
             None => false,
         }
     }
 
     // Reads the readable files of those that were found into memory. None: the folder changed while
     // it was read.
-    fn load_memory(&mut self, found: &Index, index: Index) -> io::Result<Option<Loaded<R>>>
-        ensures { StaysUnlessRead result self.old self.new }
+    fn load_memory(
+        &mut self,
+        found: &Index,
+        index: Index,
+        bytes: u64,
+    ) -> io::Result<Option<Loaded<R>>>
+        ensures stays { StaysUnlessRead result self.old self.new }
+        ensures root { self.new.root ≡ self.old.root }
+        ensures preload { self.new.preload ≡ self.old.preload }
+        ensures memory { IfRead result (λ loaded. loaded.summary.is_in_memory ≡ true) }
+        ensures bytes { IfRead result (λ loaded. loaded.summary.bytes ≡ bytes) }
     {
         let contents = match read_all(&self.rt, &index) {
             Ok(contents) => contents,
@@ -166,36 +220,61 @@ impl<R: Files + Clock + AllocGlobal + Clone + Drop> Source<R> {
             return Ok(None);
         }
         let store = TreeBacking::in_memory(self.rt.clone()?, self.rt.alloc(), index, contents)?;
-        Ok(Some(self.host(store, Some(after))?))
+        Ok(Some(self.host(store, bytes, Some(after))?))
     }
 
     // Serves the readable files of those that were found from the folder. None: the folder changed
     // while it was read, or an entry could not be examined.
-    fn load_folder(&mut self, found: &Index, index: Index) -> io::Result<Option<Loaded<R>>>
-        ensures { StaysUnlessRead result self.old self.new }
+    fn load_folder(
+        &mut self,
+        found: &Index,
+        index: Index,
+        bytes: u64,
+    ) -> io::Result<Option<Loaded<R>>>
+        ensures stays { StaysUnlessRead result self.old self.new }
+        ensures root { self.new.root ≡ self.old.root }
+        ensures preload { self.new.preload ≡ self.old.preload }
+        ensures memory { IfRead result (λ loaded. loaded.summary.is_in_memory ≡ false) }
+        ensures bytes { IfRead result (λ loaded. loaded.summary.bytes ≡ bytes) }
     {
         let after = Index::of(&self.rt, self.root.as_str())?;
         if !found.is_same(&after) {
             return Ok(None);
         }
         let store = self.on_disk(index)?;
-        Ok(Some(self.host(store, Some(after))?))
+        Ok(Some(self.host(store, bytes, Some(after))?))
     }
 
     // A store over the folder.
-    fn on_disk(&self, index: Index) -> io::Result<TreeBacking<R>> {
+    fn on_disk(&self, index: Index) -> io::Result<TreeBacking<R>>
+        ensures honest { IfOk result (λ store. (disk_of store).honest ≡ false) }
+        ensures names { IfOk result (λ store. store.names ≡ index.names) }
+    {
         Ok(TreeBacking::on_disk(self.rt.clone()?, self.rt.alloc(), index))
     }
 
-    // Creates the world of a store. The index has the files that were found in the folder; none: the
-    // folder changes, so the next `renew` reads it again.
-    fn host(&mut self, store: TreeBacking<R>, index: Option<Index>) -> io::Result<Loaded<R>>
-        ensures { OnErr result (self.new ≡ self.old) }
+    // Creates the world of a store of files with this number of bytes. The index has the files that
+    // were found in the folder; none: the folder changes, so the next `renew` reads it again.
+    fn host(
+        &mut self,
+        store: TreeBacking<R>,
+        bytes: u64,
+        index: Option<Index>,
+    ) -> io::Result<Loaded<R>>
+        ensures err { OnErr result (self.new ≡ self.old) }
+        ensures root { self.new.root ≡ self.old.root }
+        ensures preload { self.new.preload ≡ self.old.preload }
+        ensures index { OnOk result (self.new.index ≡ index) }
+        ensures young { OnOk result (self.old.is_young ≡ true → self.new.is_young ≡ false) }
+        ensures memory { IfOk result (λ loaded. loaded.summary.is_in_memory
+            ≡ (disk_of store).honest) }
+        ensures bytes { IfOk result (λ loaded. loaded.summary.bytes ≡ bytes) }
+        ensures files { IfOk result (λ loaded. loaded.summary.files ≡ length store.names) }
     {
         let files = store.index();
         let summary = Summary {
             files: files.count(),
-            bytes: files.total(),
+            bytes,
             skipped: files.skipped(),
             is_in_memory: store.is_in_memory(),
         };
