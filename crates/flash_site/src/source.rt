@@ -1,8 +1,11 @@
 //! Reads a site from a folder, and again when it changes.
-ghost use Rattle.std.specs.Prelude.{◌≡◌, ◌⊎◌, IfOk, None, Ok, OnErr, OnOk, IsTrue, false, length, true};
+ghost use Rattle.std.specs.Prelude.{◌≡◌, ◌⊎◌, ◌-◌, ◌*◌, ◌/◌, ◌%◌, ◌^◌, ◌<◌, IfOk, IsTrue, None, Ok};
+ghost use Rattle.std.specs.Prelude.{OnErr, OnOk, false, length, pos, true};
+ghost use Rattle.std.specs.Duration.{as_nanos};
 ghost use Rattle.iol_tree.specs.Store.{disk_of};
 ghost use Rattle.flash_site.specs.Reads.{IfRead, StaysUnlessRead, is_within};
 ghost use Rattle.flash_site.specs.World.{BeginsSite, BeginsSiteOf};
+ghost use Rattle.flash_site.specs.declared.source.TheConstants.{GRAIN_NANOS};
 
 use crate::site::world_of;
 use flash_lite::actor::Actor;
@@ -13,7 +16,7 @@ use iol_tree::index::Index;
 use std::io;
 use std::io::ErrorKind;
 use std::rt::{Clock, Files};
-use std::time::{SystemTime, UNIX_EPOCH};
+use std::time::{Duration, SystemTime, UNIX_EPOCH};
 
 /// The default limit of the bytes of a site that are read into memory.
 pub const PRELOAD_BYTES: u64 = 0x1000_0000;
@@ -23,7 +26,7 @@ const ATTEMPTS: u32 = 5;
 
 /// The granularity of modification times: a file that changed less than this number of nanoseconds
 /// ago may change again without a different time.
-const GRAIN_NANOS: i64 = 50_000_000;
+const GRAIN_NANOS: u64 = 50_000_000;
 
 /// The contents of a site.
 #[derive(Clone, Copy, Debug, PartialEq, Eq)]
@@ -292,18 +295,20 @@ impl<R: Files + Clock + AllocGlobal + Clone + Drop> Source<R> {
     // The time one granule ago, in seconds and nanoseconds since 1970.
     fn grain_ago(&self) -> io::Result<(i64, i64)> {
         let now = SystemTime::now(&self.rt)?;
-        let Ok(since) = now.duration_since(UNIX_EPOCH) else {
-            return Ok((0, 0));
-        };
-        let seconds = since.as_secs().min(i64::MAX as u64) as i64;
-        let nanos = i64::from(since.subsec_nanos());
-        Ok(if nanos >= GRAIN_NANOS {
-            (seconds, nanos - GRAIN_NANOS)
-        } else {
-            (
-                seconds.saturating_sub(1),
-                nanos + 1_000_000_000 - GRAIN_NANOS,
-            )
+        Ok(match now.duration_since(UNIX_EPOCH) {
+            Ok(since) => grain_before(since),
+            Err(_) => (0, 0),
         })
     }
+}
+
+// The time one granule before another, in seconds and nanoseconds since 1970.
+fn grain_before(since: Duration) -> (i64, i64)
+    ensures seconds { as_nanos since < 2 ^ 63 * 1_000_000_000
+        → result.0 ≡ pos ((as_nanos since - GRAIN_NANOS) / 1_000_000_000) }
+    ensures nanos { result.1 ≡ pos ((as_nanos since - GRAIN_NANOS) % 1_000_000_000) }
+{
+    let at = since.saturating_sub(Duration::from_nanos(GRAIN_NANOS));
+    let seconds = at.as_secs().min(i64::MAX as u64) as i64;
+    (seconds, i64::from(at.subsec_nanos()))
 }
