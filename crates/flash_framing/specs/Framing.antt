@@ -1,5 +1,5 @@
 -- The end of the first request of some bytes, and whether it closes the connection.
-use Rattle.std.specs.Prelude.{◌≡◌, ℕ, List, IsTrue, IsFalse, drop, take, ⊥}
+use Rattle.std.specs.Prelude.{◌≡◌, ℕ, List, IsTrue, IsFalse, drop, take}
 use Rattle.flash_clients.specs.Requests.{IsFirst}
 use Rattle.flash_http.specs.Request.{Answer, LooksAtTarget}
 use Rattle.flash_http.specs.Window.{window_in}

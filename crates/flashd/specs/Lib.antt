@@ -1,3 +1,4 @@
+pub mod Announcement
 pub mod Looks
 pub mod Options
 pub mod Records

@@ -1,5 +1,5 @@
 -- The lines of the access log.
-use Rattle.std.specs.Prelude.{◌≡◌, ◌⊎◌, ◌-◌, ℕ, List, [], ◌++◌, Option, None, Some, ⊤, ⊥, length, unwrap_or}
+use Rattle.std.specs.Prelude.{◌≡◌, ◌⊎◌, ◌-◌, ℕ, List, [], ◌++◌, Option, None, Some, ⊤, length, unwrap_or}
 use Rattle.flash_log.specs.Head.{head_length, request_line, status_of}
 use Rattle.flash_log.specs.Line.{line_of}
 use Rattle.flash_log.specs.declared.lines.Entry.{Entry}

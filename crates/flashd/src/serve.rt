@@ -1,8 +1,9 @@
 //! The server.
-ghost use Rattle.std.specs.Prelude.{◌≡◌, [], IfOk, IfSome, IsTrue, false, true};
+ghost use Rattle.std.specs.Prelude.{◌≡◌, [], IfOk, IfSome, IsTrue, OnOk, true};
 ghost use Rattle.std.specs.Fs.{new_options, with_append, with_create};
 ghost use Rattle.flash_site.specs.Reads.{is_within};
 ghost use Rattle.flash_site.specs.World.{BeginsSiteIn};
+ghost use Rattle.flashd.specs.Announcement.{Announces};
 
 use crate::fault::{Fault, Step};
 use crate::options::Options;
@@ -20,6 +21,7 @@ use std::alloc::AllocError;
 use std::fs::{File, OpenOptions};
 use std::io;
 use std::io::Write;
+use std::net::SocketAddr;
 
 /// The reason for which `--memory-only` does not serve a site.
 const NOT_IN_MEMORY: &str = "its files exceed --preload-limit, change, or cannot be read";
@@ -163,7 +165,13 @@ fn tell_address<W: Write + Drop, K: Storage>(
     reactor: &SiteReactor<W, K>,
 ) -> io::Result<()> {
     let address = reactor.local_addr()?;
-    let mut output = rt.stdout();
+    announce(address, &mut rt.stdout())
+}
+
+// Prints an address.
+fn announce<O: Write>(address: SocketAddr, output: &mut O) -> io::Result<()>
+    ensures { OnOk result (Announces address (O.contents output.old) (O.contents output.new)) }
+{
     writeln!(output, "listening on http://{address}/")?;
     output.flush()
 }
