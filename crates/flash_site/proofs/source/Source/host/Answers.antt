@@ -1,4 +1,4 @@
-use Rattle.std.proofs.Common.{◌≡◌, ◌∙◌, length, rules, sym}
+use Rattle.std.proofs.Common.{◌∙◌, rules, sym}
 use Rattle.iol_tree.specs.Store.{disk_of}
 use Rattle.flash_site.proofs.Begins.{begins_site, begins_site_of}
 use Rattle.flash_site.proofs.source.Source.host.Goals as goal
