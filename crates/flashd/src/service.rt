@@ -1,10 +1,11 @@
 //! A site, as a service of the event loop.
-ghost use Rattle.std.specs.Prelude.{◌≡◌, ◌↔◌, ◌*◌, ◌/◌, [], IfOk, IfSome, IsTrue, None, OnOk, min};
+ghost use Rattle.std.specs.Prelude.{◌≡◌, ◌⊎◌, ◌↔◌, ◌*◌, ◌/◌, [], ◌++◌, IfOk, IfSome, IsTrue, None, OnOk, min};
 ghost use Rattle.std.specs.Prelude.{refl};
 ghost use Rattle.std.specs.Duration.{as_nanos};
 ghost use Rattle.flash_framing.specs.Framing.{Framed};
 ghost use Rattle.flash_lite.specs.declared.layout.TheConstants.{NET_POOL};
 ghost use Rattle.flash_framing.specs.Progress as framing;
+ghost use Rattle.flash_log.specs.Line.{line_of};
 ghost use Rattle.flash_site.specs.World.{BeginsSiteIn};
 ghost use Rattle.flashd.specs.Records.{LogsTo};
 ghost use Rattle.flashd.specs.Looks.{IsDue};
@@ -98,16 +99,14 @@ where
         let host = format!(in alloc; "{ip}")?;
         let date = log_date(alloc, seconds_now(&self.rt)?)?;
         let head = head_length(exchange.head).unwrap_or(exchange.head.len()) as u64;
-        log.add(&Entry {
+        let entry = Entry {
             host: host.as_bytes(),
             date: &date,
             request_line: request_line(exchange.request),
             status: status_of(exchange.head),
             body: exchange.sent.saturating_sub(head),
-        })?;
-        if log.is_full() {
-            log.flush();
-        }
+        };
+        add_line(log, &entry)?;
         Ok(())
     }
 
@@ -165,6 +164,17 @@ fn world_in<R: Files + Drop, K: Storage>(loaded: Loaded<R>) -> Option<World<Tree
         return None;
     }
     Some(loaded.world)
+}
+
+// Adds the line of an entry, and writes all lines if there are enough.
+fn add_line<W: Write>(log: &mut AccessLog<W>, entry: &Entry<'_>) -> Result<(), AllocError>
+    ensures { OnOk result ((log.new ≡ log.old ++ line_of entry.now) ⊎ (log.new ≡ [])) }
+{
+    log.add(entry)?;
+    if log.is_full() {
+        log.flush();
+    }
+    Ok(())
 }
 
 // The seconds since 1970.
