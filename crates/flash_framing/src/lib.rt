@@ -4,10 +4,12 @@
 //! by [`frame_of`] and `progress` by [`progress_of`].
 #![tactic(auto)]
 
-ghost use Rattle.std.specs.Prelude.{◌≡◌, IfOk};
+ghost use Rattle.std.specs.Prelude.{◌≡◌, IfOk, OnErr};
 ghost use Rattle.flash_http.specs.Request as http;
+ghost use Rattle.flash_http.specs.Prelude.{window_in};
 ghost use Rattle.flash_laws.specs.Prelude.{keeps};
-ghost use Rattle.flash_framing.specs.Framing.{Framed};
+ghost use Rattle.flash_framing.specs.Framing.{Framed, LooksAtFirst};
+ghost use Rattle.flash_framing.specs.Progress as spec;
 
 use flash_http::{Asked, MAX_HEAD_BYTES, Window, read_head, window_of};
 use flash_log::heads::{content_length, has_line, head_length, request_line};
@@ -17,7 +19,8 @@ use std::alloc::{AllocError, Global};
 /// The first request of these bytes: its head, with the empty lines before it. A request with
 /// content is refused, so no request has content.
 pub fn frame_of(alloc: Global, bytes: &[u8]) -> Result<Frame, AllocError>
-    ensures { IfOk result (λ frame. Framed bytes.now frame) }
+    ensures frame { IfOk result (λ frame. Framed bytes.now frame) }
+    ensures memory { OnErr result (LooksAtFirst (window_in bytes.now) bytes.now) }
 {
     match window_of(bytes) {
         Window::Head { skip, len } => {
@@ -45,7 +48,9 @@ fn stays_open(asked: &Asked) -> bool
 }
 
 /// The progress of a response, by its head and its last bytes.
-pub fn progress_of(exchange: &Exchange<'_>) -> Progress {
+pub fn progress_of(exchange: &Exchange<'_>) -> Progress
+    ensures { result ≡ spec.progress_of exchange.now }
+{
     let Some(length) = head_length(exchange.head) else {
         return Progress::Unknown;
     };
@@ -53,18 +58,32 @@ pub fn progress_of(exchange: &Exchange<'_>) -> Progress {
     if has_line(head, b"Connection: close") {
         return Progress::Last;
     }
-    let has_body = !request_line(exchange.request).starts_with(b"HEAD ".as_slice());
-    if has_body && !is_whole(head, exchange) {
+    if !asks_head(exchange.request) && !is_whole(head, exchange) {
         return Progress::Unknown;
     }
     Progress::Complete
 }
 
+// Whether the method is HEAD.
+fn asks_head(request: &[u8]) -> bool
+    ensures { result ≡ spec.asks_head request.now }
+{
+    request_line(request).starts_with(b"HEAD ".as_slice())
+}
+
 // Whether the body of a response with this head is whole.
-fn is_whole(head: &[u8], exchange: &Exchange<'_>) -> bool {
-    if let Some(count) = content_length(head) {
-        return exchange.produced >= count.saturating_add(head.len() as u64);
+fn is_whole(head: &[u8], exchange: &Exchange<'_>) -> bool
+    ensures { result ≡ spec.is_whole head.now exchange.now }
+{
+    match content_length(head) {
+        Some(count) => u128::from(count) + head.len() as u128 <= u128::from(exchange.produced),
+        None => ends_chunks(head, exchange.tail),
     }
-    let ends = exchange.tail.ends_with(b"\r\n0\r\n\r\n".as_slice());
-    ends && has_line(head, b"Transfer-Encoding: chunked")
+}
+
+// Whether the body ends with its last chunk.
+fn ends_chunks(head: &[u8], tail: &[u8]) -> bool
+    ensures { result ≡ spec.ends_chunks head.now tail.now }
+{
+    tail.ends_with(b"\r\n0\r\n\r\n".as_slice()) && has_line(head, b"Transfer-Encoding: chunked")
 }

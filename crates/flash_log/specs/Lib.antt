@@ -1,2 +1,3 @@
 pub mod Date
+pub mod Head
 pub mod Line

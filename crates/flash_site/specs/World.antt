@@ -1,5 +1,5 @@
 -- The world of a site of files.
-use Rattle.std.specs.Prelude.{ℕ, Bool, List, [], IsTrue}
+use Rattle.std.specs.Prelude.{◌≡◌, ℕ, Bool, List, [], IsTrue, length}
 use Rattle.iol_back.specs.Disk.{Disk}
 use Rattle.iol_core.specs.declared.configuration.Config.{Config}
 use Rattle.iol_core.specs.declared.configuration.TheConstants.Config.{DEFAULT}
@@ -38,7 +38,17 @@ pub record IsSiteWorld (world : WorldState SystemState (Actor Worker)) : Type 0 
 abbrev pub BeginsSite : (world : WorldState SystemState (Actor Worker)) → Type 0
 BeginsSite world = ∥ IsSiteWorld world ∥₁
 
--- The same over an honest store, if the site is to be in memory.
+-- The world of a site of this number of files over some store, before its first turn, with the default parameters.
+pub record IsSiteOf (count : ℕ) (world : WorldState SystemState (Actor Worker)) : Type 0 where
+  pub names : List (List ℕ)
+  pub store : Disk
+  pub is : IsWorldOf names store world
+  pub count-is : length names ≡ count
+
+abbrev pub BeginsSiteOf : (count : ℕ) → (world : WorldState SystemState (Actor Worker)) → Type 0
+BeginsSiteOf count world = ∥ IsSiteOf count world ∥₁
+
+-- A world of a site over an honest store, if the site is to be in memory.
 pub record BeginsSiteIn (in_memory : Bool) (world : WorldState SystemState (Actor Worker)) : Type 0 where
   pub site : BeginsSite world
   pub honest : IsTrue in_memory → IsTrue world.machine.disk.honest

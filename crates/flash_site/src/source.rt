@@ -1,7 +1,11 @@
 //! Reads a site from a folder, and again when it changes.
-ghost use Rattle.std.specs.Prelude.{◌≡◌, IfOk, None, OnErr};
-ghost use Rattle.flash_site.specs.Reads.{StaysUnlessRead};
-ghost use Rattle.flash_site.specs.World.{BeginsSite};
+ghost use Rattle.std.specs.Prelude.{◌≡◌, ◌⊎◌, ◌-◌, ◌*◌, ◌/◌, ◌%◌, ◌^◌, ◌<◌, IfOk, IsTrue, None, Ok};
+ghost use Rattle.std.specs.Prelude.{OnErr, OnOk, false, length, pos, true};
+ghost use Rattle.std.specs.Duration.{as_nanos};
+ghost use Rattle.iol_tree.specs.Store.{disk_of};
+ghost use Rattle.flash_site.specs.Reads.{IfRead, StaysUnlessRead, is_within};
+ghost use Rattle.flash_site.specs.World.{BeginsSite, BeginsSiteOf};
+ghost use Rattle.flash_site.specs.declared.source.TheConstants.{GRAIN_NANOS};
 
 use crate::site::world_of;
 use flash_lite::actor::Actor;
@@ -12,7 +16,7 @@ use iol_tree::index::Index;
 use std::io;
 use std::io::ErrorKind;
 use std::rt::{Clock, Files};
-use std::time::{SystemTime, UNIX_EPOCH};
+use std::time::{Duration, SystemTime, UNIX_EPOCH};
 
 /// The default limit of the bytes of a site that are read into memory.
 pub const PRELOAD_BYTES: u64 = 0x1000_0000;
@@ -22,7 +26,7 @@ const ATTEMPTS: u32 = 5;
 
 /// The granularity of modification times: a file that changed less than this number of nanoseconds
 /// ago may change again without a different time.
-const GRAIN_NANOS: i64 = 50_000_000;
+const GRAIN_NANOS: u64 = 50_000_000;
 
 /// The contents of a site.
 #[derive(Clone, Copy, Debug, PartialEq, Eq)]
@@ -46,6 +50,7 @@ pub struct Loaded<R: Files> {
     pub world: World<TreeBacking<R>, Actor>,
     pub summary: Summary,
     ghost begins: { BeginsSite world },
+    ghost files: { BeginsSiteOf summary.files world },
     ghost honest: { world.machine.disk.honest ≡ summary.is_in_memory },
 }
 
@@ -84,16 +89,31 @@ impl<R: Files + Clock + AllocGlobal + Clone + Drop> Source<R> {
 
     /// Reads the site. If it changes while it is read, it is served from the folder.
     pub fn load(&mut self) -> io::Result<Loaded<R>>
-        ensures { OnErr result (self.new ≡ self.old) }
+        ensures err { OnErr result (self.new ≡ self.old) }
+        ensures root { self.new.root ≡ self.old.root }
+        ensures preload { self.new.preload ≡ self.old.preload }
+        ensures memory { IfOk result (λ loaded. IsTrue loaded.summary.is_in_memory
+            → IsTrue (is_within self.old.preload loaded.summary.bytes)) }
     {
         match self.load_steady()? {
             Some(loaded) => Ok(loaded),
-            None => {
-                let index = Index::of(&self.rt, self.root.as_str())?;
-                let store = self.on_disk(index.readable(&self.rt)?)?;
-                self.host(store, None)
-            }
+            None => self.load_changing(),
         }
+    }
+
+    // Serves the readable files from the folder, which changes.
+    fn load_changing(&mut self) -> io::Result<Loaded<R>>
+        ensures err { OnErr result (self.new ≡ self.old) }
+        ensures root { self.new.root ≡ self.old.root }
+        ensures preload { self.new.preload ≡ self.old.preload }
+        ensures folder { IfOk result (λ loaded. loaded.summary.is_in_memory ≡ false) }
+        ensures unread { OnOk result (self.new.index ≡ None) }
+    {
+        let found = Index::of(&self.rt, self.root.as_str())?;
+        let index = found.readable(&self.rt)?;
+        let bytes = index.total();
+        let store = self.on_disk(index)?;
+        self.host(store, bytes, None)
     }
 
     /// Reads the site again, if the folder changed since the last read, or if `is_forced`. None:
@@ -101,16 +121,33 @@ impl<R: Files + Clock + AllocGlobal + Clone + Drop> Source<R> {
     /// After None or an error the source is unchanged: the next call finds a change that was not
     /// read.
     pub fn renew(&mut self, is_forced: bool) -> io::Result<Option<Loaded<R>>>
-        ensures { StaysUnlessRead result self.old self.new }
+        ensures stays { StaysUnlessRead result self.old self.new }
+        ensures root { self.new.root ≡ self.old.root }
+        ensures preload { self.new.preload ≡ self.old.preload }
+        ensures memory { IfRead result (λ loaded. loaded.summary.is_in_memory
+            ≡ is_within self.old.preload loaded.summary.bytes) }
     {
-        if !is_forced && !self.is_young && self.is_same()? {
+        if !self.is_due(is_forced)? {
             return Ok(None);
         }
         self.load_steady()
     }
 
+    // Returns whether the site is to be read again.
+    fn is_due(&self, is_forced: bool) -> io::Result<bool>
+        ensures forced { (is_forced ≡ true) ⊎ (self.now.is_young ≡ true) → result ≡ Ok true }
+        ensures unread { self.now.index ≡ None → IfOk result (λ due. due ≡ true) }
+    {
+        if is_forced || self.is_young {
+            return Ok(true);
+        }
+        Ok(!self.is_same()?)
+    }
+
     // Returns whether the folder has the files of the last read, unchanged.
-    fn is_same(&self) -> io::Result<bool> {
+    fn is_same(&self) -> io::Result<bool>
+        ensures { self.now.index ≡ None → IfOk result (λ same. same ≡ false) }
+    {
         let now = Index::of(&self.rt, self.root.as_str())?;
         Ok(match &self.index {
             Some(index) => index.is_same(&now),
@@ -120,7 +157,11 @@ impl<R: Files + Clock + AllocGlobal + Clone + Drop> Source<R> {
 
     // Reads the site, unless it changes during each attempt.
     fn load_steady(&mut self) -> io::Result<Option<Loaded<R>>>
-        ensures { StaysUnlessRead result self.old self.new }
+        ensures stays { StaysUnlessRead result self.old self.new }
+        ensures root { self.new.root ≡ self.old.root }
+        ensures preload { self.new.preload ≡ self.old.preload }
+        ensures memory { IfRead result (λ loaded. loaded.summary.is_in_memory
+            ≡ is_within self.old.preload loaded.summary.bytes) }
     {
         for _ in 0..ATTEMPTS {
             if let Some(loaded) = self.load_once()? {
@@ -132,29 +173,45 @@ impl<R: Files + Clock + AllocGlobal + Clone + Drop> Source<R> {
 
     // Reads the site. None: the folder changed while it was read.
     fn load_once(&mut self) -> io::Result<Option<Loaded<R>>>
-        ensures { StaysUnlessRead result self.old self.new }
+        ensures stays { StaysUnlessRead result self.old self.new }
+        ensures root { self.new.root ≡ self.old.root }
+        ensures preload { self.new.preload ≡ self.old.preload }
+        ensures memory { IfRead result (λ loaded. loaded.summary.is_in_memory
+            ≡ is_within self.old.preload loaded.summary.bytes) }
     {
         let found = Index::of(&self.rt, self.root.as_str())?;
         let index = found.readable(&self.rt)?;
-        if self.fits(&index) {
-            self.load_memory(&found, index)
+        let bytes = index.total();
+        if self.fits(bytes) {
+            self.load_memory(&found, index, bytes)
         } else {
-            self.load_folder(&found, index)
+            self.load_folder(&found, index, bytes)
         }
     }
 
-    // Returns whether the files are read into memory.
-    fn fits(&self, index: &Index) -> bool {
+    // Returns whether this number of bytes is read into memory.
+    fn fits(&self, bytes: u64) -> bool
+        ensures { result ≡ is_within self.now.preload bytes }
+    {
         match self.preload {
-            Some(most) => index.total() <= most,
+            Some(most) => bytes <= most,
             None => false,
         }
     }
 
     // Reads the readable files of those that were found into memory. None: the folder changed while
     // it was read.
-    fn load_memory(&mut self, found: &Index, index: Index) -> io::Result<Option<Loaded<R>>>
-        ensures { StaysUnlessRead result self.old self.new }
+    fn load_memory(
+        &mut self,
+        found: &Index,
+        index: Index,
+        bytes: u64,
+    ) -> io::Result<Option<Loaded<R>>>
+        ensures stays { StaysUnlessRead result self.old self.new }
+        ensures root { self.new.root ≡ self.old.root }
+        ensures preload { self.new.preload ≡ self.old.preload }
+        ensures memory { IfRead result (λ loaded. loaded.summary.is_in_memory ≡ true) }
+        ensures bytes { IfRead result (λ loaded. loaded.summary.bytes ≡ bytes) }
     {
         let contents = match read_all(&self.rt, &index) {
             Ok(contents) => contents,
@@ -166,36 +223,61 @@ impl<R: Files + Clock + AllocGlobal + Clone + Drop> Source<R> {
             return Ok(None);
         }
         let store = TreeBacking::in_memory(self.rt.clone()?, self.rt.alloc(), index, contents)?;
-        Ok(Some(self.host(store, Some(after))?))
+        Ok(Some(self.host(store, bytes, Some(after))?))
     }
 
     // Serves the readable files of those that were found from the folder. None: the folder changed
     // while it was read, or an entry could not be examined.
-    fn load_folder(&mut self, found: &Index, index: Index) -> io::Result<Option<Loaded<R>>>
-        ensures { StaysUnlessRead result self.old self.new }
+    fn load_folder(
+        &mut self,
+        found: &Index,
+        index: Index,
+        bytes: u64,
+    ) -> io::Result<Option<Loaded<R>>>
+        ensures stays { StaysUnlessRead result self.old self.new }
+        ensures root { self.new.root ≡ self.old.root }
+        ensures preload { self.new.preload ≡ self.old.preload }
+        ensures memory { IfRead result (λ loaded. loaded.summary.is_in_memory ≡ false) }
+        ensures bytes { IfRead result (λ loaded. loaded.summary.bytes ≡ bytes) }
     {
         let after = Index::of(&self.rt, self.root.as_str())?;
         if !found.is_same(&after) {
             return Ok(None);
         }
         let store = self.on_disk(index)?;
-        Ok(Some(self.host(store, Some(after))?))
+        Ok(Some(self.host(store, bytes, Some(after))?))
     }
 
     // A store over the folder.
-    fn on_disk(&self, index: Index) -> io::Result<TreeBacking<R>> {
+    fn on_disk(&self, index: Index) -> io::Result<TreeBacking<R>>
+        ensures honest { IfOk result (λ store. (disk_of store).honest ≡ false) }
+        ensures names { IfOk result (λ store. store.names ≡ index.names) }
+    {
         Ok(TreeBacking::on_disk(self.rt.clone()?, self.rt.alloc(), index))
     }
 
-    // Creates the world of a store. The index has the files that were found in the folder; none: the
-    // folder changes, so the next `renew` reads it again.
-    fn host(&mut self, store: TreeBacking<R>, index: Option<Index>) -> io::Result<Loaded<R>>
-        ensures { OnErr result (self.new ≡ self.old) }
+    // Creates the world of a store of files with this number of bytes. The index has the files that
+    // were found in the folder; none: the folder changes, so the next `renew` reads it again.
+    fn host(
+        &mut self,
+        store: TreeBacking<R>,
+        bytes: u64,
+        index: Option<Index>,
+    ) -> io::Result<Loaded<R>>
+        ensures err { OnErr result (self.new ≡ self.old) }
+        ensures root { self.new.root ≡ self.old.root }
+        ensures preload { self.new.preload ≡ self.old.preload }
+        ensures index { OnOk result (self.new.index ≡ index) }
+        ensures young { OnOk result (self.old.is_young ≡ true → self.new.is_young ≡ false) }
+        ensures memory { IfOk result (λ loaded. loaded.summary.is_in_memory
+            ≡ (disk_of store).honest) }
+        ensures bytes { IfOk result (λ loaded. loaded.summary.bytes ≡ bytes) }
+        ensures files { IfOk result (λ loaded. loaded.summary.files ≡ length store.names) }
     {
         let files = store.index();
         let summary = Summary {
             files: files.count(),
-            bytes: files.total(),
+            bytes,
             skipped: files.skipped(),
             is_in_memory: store.is_in_memory(),
         };
@@ -213,18 +295,20 @@ impl<R: Files + Clock + AllocGlobal + Clone + Drop> Source<R> {
     // The time one granule ago, in seconds and nanoseconds since 1970.
     fn grain_ago(&self) -> io::Result<(i64, i64)> {
         let now = SystemTime::now(&self.rt)?;
-        let Ok(since) = now.duration_since(UNIX_EPOCH) else {
-            return Ok((0, 0));
-        };
-        let seconds = since.as_secs().min(i64::MAX as u64) as i64;
-        let nanos = i64::from(since.subsec_nanos());
-        Ok(if nanos >= GRAIN_NANOS {
-            (seconds, nanos - GRAIN_NANOS)
-        } else {
-            (
-                seconds.saturating_sub(1),
-                nanos + 1_000_000_000 - GRAIN_NANOS,
-            )
+        Ok(match now.duration_since(UNIX_EPOCH) {
+            Ok(since) => grain_before(since),
+            Err(_) => (0, 0),
         })
     }
+}
+
+// The time one granule before another, in seconds and nanoseconds since 1970.
+fn grain_before(since: Duration) -> (i64, i64)
+    ensures seconds { as_nanos since < 2 ^ 63 * 1_000_000_000
+        → result.0 ≡ pos ((as_nanos since - GRAIN_NANOS) / 1_000_000_000) }
+    ensures nanos { result.1 ≡ pos ((as_nanos since - GRAIN_NANOS) % 1_000_000_000) }
+{
+    let at = since.saturating_sub(Duration::from_nanos(GRAIN_NANOS));
+    let seconds = at.as_secs().min(i64::MAX as u64) as i64;
+    (seconds, i64::from(at.subsec_nanos()))
 }

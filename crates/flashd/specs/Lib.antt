@@ -1,1 +1,4 @@
+pub mod Announcement
+pub mod Looks
 pub mod Options
+pub mod Records

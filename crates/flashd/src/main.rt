@@ -1,7 +1,10 @@
 //! `flashd`: serves the files below a folder by HTTP/1.1 to many concurrent clients.
 #![tactic(auto)]
 
-ghost use Rattle.std.specs.Prelude.{◌≡◌, ◌⊎◌, IfOk};
+ghost use Rattle.std.specs.Prelude.{◌≡◌, ◌≢◌, ◌⊎◌, IfErr, IfOk};
+ghost use Rattle.clap.specs.Words.{kind_of};
+ghost use Rattle.flashd.specs.declared.TheConstants.{BAD_WORDS, FAULT};
+ghost use Rattle.clap.specs.declared.error.ErrorKind.TheVariants.{DisplayHelp, DisplayVersion};
 
 mod fault;
 mod notices;
@@ -42,7 +45,7 @@ fn run<'a>(rt: &HostRuntime, words: &'a [String]) -> Result<u8, Fault<'a>>
         Ok(matches) => matches,
         Err(error) => {
             let shown = error.print(rt);
-            let status = if error.use_stderr() { BAD_WORDS } else { 0 };
+            let status = status_of_words(&error);
             shown.map_err(|error| Fault::of(Step::Print, error))?;
             return Ok(status);
         }
@@ -59,6 +62,16 @@ fn run<'a>(rt: &HostRuntime, words: &'a [String]) -> Result<u8, Fault<'a>>
     Ok(0)
 }
 
+// The exit status for words that were not parsed: 0 if they request the help or the version.
+fn status_of_words(error: &clap::Error) -> u8
+    ensures shown { (kind_of error.now ≡ DisplayHelp) ⊎ (kind_of error.now ≡ DisplayVersion)
+        → result ≡ 0 }
+    ensures wrong { kind_of error.now ≢ DisplayHelp → kind_of error.now ≢ DisplayVersion
+        → result ≡ BAD_WORDS }
+{
+    if error.use_stderr() { BAD_WORDS } else { 0 }
+}
+
 /// Runs the program, and reports on standard error the fault that ended it early. An error of that
 /// write is ignored.
 fn main(rt: HostRuntime) -> ExitCode {
@@ -67,11 +80,19 @@ fn main(rt: HostRuntime) -> ExitCode {
         Ok(words) => run(&rt, words),
         Err(error) => Err(Fault::of(Step::ReadWords, *error)),
     };
+    if let Err(fault) = &done {
+        let _ = writeln!(rt.stderr(), "flashd: {fault}");
+    }
+    ExitCode::from(status_of(&done))
+}
+
+// The exit status.
+fn status_of(done: &Result<u8, Fault<'_>>) -> u8
+    ensures ok { IfOk done.now (λ status. result ≡ status) }
+    ensures fault { IfErr done.now (λ fault. result ≡ FAULT) }
+{
     match done {
-        Ok(status) => ExitCode::from(status),
-        Err(fault) => {
-            let _ = writeln!(rt.stderr(), "flashd: {fault}");
-            ExitCode::from(FAULT)
-        }
+        Ok(status) => *status,
+        Err(_) => FAULT,
     }
 }

@@ -1,9 +1,10 @@
 //! The options of the command line.
-ghost use Rattle.std.specs.Prelude.{◌≡◌, ◌*◌, ℕ, Option, IfSome, Some, None, true, codes};
+ghost use Rattle.std.specs.Prelude.{◌≡◌, ◌*◌, ◌⊎◌, ℕ, Option, IfNone, IfSome, Some, None, codes};
+ghost use Rattle.std.specs.Prelude.{false, true};
 ghost use Rattle.std.specs.Prelude.{option_map};
 ghost use Rattle.std.specs.Option.{option_map_or, unwrap_or};
 ghost use Rattle.clap.specs.Words.{first_value, found_of, one_text};
-ghost use Rattle.flashd.specs.Options.{ReadsText, SetsLimits};
+ghost use Rattle.flashd.specs.Options.{IsGiven, IsOmitted, ReadsText, SetsLimits, SetsPreload};
 ghost use Rattle.iol_reactor.specs.declared.limits.TheConstants.Limits.{DEFAULT};
 
 use clap::{Arg, ArgAction, ArgMatches, Command, value_parser};
@@ -53,14 +54,22 @@ impl<'a> Options<'a> {
             ≡ Some o.root.now) }
         ensures log { IfSome result (λ o. first_value (found_of matches.now) (codes "access-log")
             ≡ option_map (λ path. path.now) o.access_log) }
-        ensures folder { one_text (found_of matches.now) (codes "no-preload") ≡ Some (codes "true")
+        ensures folder { IsGiven (found_of matches.now) (codes "no-preload")
             → IfSome result (λ o. o.preload ≡ None) }
-        ensures memory { one_text (found_of matches.now) (codes "memory-only") ≡ Some (codes "true")
+        ensures preload { IsOmitted (found_of matches.now) (codes "no-preload")
+            → IfSome result (λ o. SetsPreload ⟦<u64 as FromStr>⟧.from_str_gives
+            (found_of matches.now) o.preload) }
+        ensures memory { IsGiven (found_of matches.now) (codes "memory-only")
             → IfSome result (λ o. o.memory_only ≡ true) }
+        ensures anywhere { IsOmitted (found_of matches.now) (codes "memory-only")
+            → IfSome result (λ o. o.memory_only ≡ false) }
         ensures listen { IfSome result (λ o. ReadsText ⟦<SocketAddr as FromStr>⟧.from_str_gives
             (one_text (found_of matches.now) (codes "listen")) (Some o.listen)) }
         ensures limits { IfSome result (λ o. SetsLimits ⟦<u32 as FromStr>⟧.from_str_gives
             (found_of matches.now) o.limits) }
+        ensures none { IfNone result ((first_value (found_of matches.now) (codes "root") ≡ None)
+            ⊎ ReadsText ⟦<SocketAddr as FromStr>⟧.from_str_gives
+            (one_text (found_of matches.now) (codes "listen")) None) }
     {
         let listen = matches.get_one::<SocketAddr>("listen")?;
         let root = matches.get_str("root")?;
@@ -75,9 +84,11 @@ impl<'a> Options<'a> {
     }
 }
 
+// The maximum number of bytes of files that are read into memory, if any.
 fn preload_of(matches: &ArgMatches<'_>) -> Option<u64>
-    ensures { one_text (found_of matches.now) (codes "no-preload") ≡ Some (codes "true")
-        → result ≡ None }
+    ensures folder { IsGiven (found_of matches.now) (codes "no-preload") → result ≡ None }
+    ensures preload { IsOmitted (found_of matches.now) (codes "no-preload")
+        → SetsPreload ⟦<u64 as FromStr>⟧.from_str_gives (found_of matches.now) result }
 {
     if matches.get_flag("no-preload") {
         None

@@ -1,5 +1,9 @@
 //! The server.
-ghost use Rattle.std.specs.Prelude.{◌≡◌, true};
+ghost use Rattle.std.specs.Prelude.{◌≡◌, [], IfOk, IfSome, IsTrue, OnOk, true};
+ghost use Rattle.std.specs.Fs.{new_options, with_append, with_create};
+ghost use Rattle.flash_site.specs.Reads.{is_within};
+ghost use Rattle.flash_site.specs.World.{BeginsSiteIn};
+ghost use Rattle.flashd.specs.Announcement.{Announces};
 
 use crate::fault::{Fault, Step};
 use crate::options::Options;
@@ -8,6 +12,7 @@ use crate::storage::{Anywhere, InMemory, Storage};
 use flash_lite::actor::Actor;
 use flash_log::log::AccessLog;
 use flash_site::source::{Loaded, Source};
+use iol_proc::world::World;
 use iol_reactor::reactor::Reactor;
 use iol_reactor::service::Service;
 use iol_tree::backing::TreeBacking;
@@ -16,6 +21,7 @@ use std::alloc::AllocError;
 use std::fs::{File, OpenOptions};
 use std::io;
 use std::io::Write;
+use std::net::SocketAddr;
 
 /// The reason for which `--memory-only` does not serve a site.
 const NOT_IN_MEMORY: &str = "its files exceed --preload-limit, change, or cannot be read";
@@ -39,20 +45,32 @@ pub fn serve<'a>(rt: &HostRuntime, options: &Options<'a>) -> Result<(), Fault<'a
     serve_site(rt, options, log)
 }
 
-// Opens the log file for appending.
+// Opens the log file.
 fn open_log<'a>(rt: &HostRuntime, path: &'a str) -> Result<File, Fault<'a>> {
-    OpenOptions::new()
-        .append(true)
-        .create(true)
+    log_options()
         .open(rt, path)
         .map_err(|error| Fault::of(Step::OpenLog(path), error))
+}
+
+// The log file is appended to, and created if it is missing.
+fn log_options() -> OpenOptions
+    ensures { result ≡ with_create (with_append new_options true) true }
+{
+    let mut options = OpenOptions::new();
+    options.append(true).create(true);
+    options
 }
 
 // Reads the site.
 fn read_site(
     rt: &HostRuntime,
     options: &Options<'_>,
-) -> io::Result<(Source<HostRuntime>, Loaded<HostRuntime>)> {
+) -> io::Result<(Source<HostRuntime>, Loaded<HostRuntime>)>
+    ensures root { IfOk result (λ read. read.0.root.bytes.items ≡ options.now.root.now) }
+    ensures preload { IfOk result (λ read. read.0.preload ≡ options.now.preload) }
+    ensures memory { IfOk result (λ read. IsTrue read.1.summary.is_in_memory
+        → IsTrue (is_within options.now.preload read.1.summary.bytes)) }
+{
     let mut source = Source::new(rt, options.root, options.preload)?;
     let loaded = source.load()?;
     Ok((source, loaded))
@@ -85,28 +103,55 @@ fn serve_loaded<'a, W: Write + Drop, K: Storage>(
     loaded: Loaded<HostRuntime>,
     log: Option<AccessLog<W>>,
 ) -> Result<(), Fault<'a>>
-    requires { K.IN_MEMORY ≡ true → loaded.summary.is_in_memory ≡ true }
+    requires memory { K.IN_MEMORY ≡ true → loaded.summary.is_in_memory ≡ true }
+    requires storage { K.IN_MEMORY ≡ options.now.memory_only }
 {
     let Loaded { world, summary } = loaded;
-    let address = options.listen;
-    let reactor = Reactor::new(rt, rt.alloc(), address, world, options.limits);
-    let mut reactor = reactor.map_err(|error| Fault::of(Step::Listen(address), error))?;
+    let mut reactor = listen::<W, K>(rt, options, world)?;
     let service = SiteService::<_, _, K>::new(rt, options.root, source, summary, log);
     let served = serve_clients(rt, service, &mut reactor);
     drop(reactor);
     served
 }
 
-// Prints its address, and serves.
+// A reactor that listens on the address, and has the limits of the options.
+fn listen<'a, W: Write + Drop, K: Storage>(
+    rt: &HostRuntime,
+    options: &Options<'a>,
+    world: World<TreeBacking<HostRuntime>, Actor>,
+) -> Result<SiteReactor<W, K>, Fault<'a>>
+    requires { BeginsSiteIn K.IN_MEMORY world }
+    ensures limits { IfOk result (λ reactor. reactor.engine.limits ≡ options.now.limits) }
+    ensures stops { IfOk result (λ reactor. reactor.acceptor.left
+        ≡ options.now.limits.stop_after) }
+    ensures world { IfOk result (λ reactor. reactor.engine.places.worlds.current.world ≡ world) }
+{
+    let address = options.listen;
+    let reactor = Reactor::new(rt, rt.alloc(), address, world, options.limits);
+    reactor.map_err(|error| Fault::of(Step::Listen(address), error))
+}
+
+// Serves if there was memory for the service.
 fn serve_clients<'a, W: Write + Drop, K: Storage>(
     rt: &HostRuntime,
     service: Result<SiteService<HostRuntime, W, K>, AllocError>,
     reactor: &mut SiteReactor<W, K>,
 ) -> Result<(), Fault<'a>> {
     let mut service = service?;
+    serve_logged(rt, &mut service, reactor)
+}
+
+// Prints its address, serves, and writes the rest of the log.
+fn serve_logged<'a, W: Write + Drop, K: Storage>(
+    rt: &HostRuntime,
+    service: &mut SiteService<HostRuntime, W, K>,
+    reactor: &mut SiteReactor<W, K>,
+) -> Result<(), Fault<'a>>
+    ensures { IfSome service.new.log (λ log. log ≡ []) }
+{
     let served = match tell_address(rt, reactor) {
         Ok(()) => reactor
-            .serve(rt, &mut service)
+            .serve(rt, service)
             .map_err(|error| Fault::of(Step::Poll, error)),
         Err(error) => Err(Fault::of(Step::Print, error)),
     };
@@ -120,7 +165,13 @@ fn tell_address<W: Write + Drop, K: Storage>(
     reactor: &SiteReactor<W, K>,
 ) -> io::Result<()> {
     let address = reactor.local_addr()?;
-    let mut output = rt.stdout();
+    announce(address, &mut rt.stdout())
+}
+
+// Prints an address.
+fn announce<O: Write>(address: SocketAddr, output: &mut O) -> io::Result<()>
+    ensures { OnOk result (Announces address (O.contents output.old) (O.contents output.new)) }
+{
     writeln!(output, "listening on http://{address}/")?;
     output.flush()
 }

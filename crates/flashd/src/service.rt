@@ -1,8 +1,15 @@
 //! A site, as a service of the event loop.
-ghost use Rattle.std.specs.Prelude.{IfOk, IfSome, refl};
+ghost use Rattle.std.specs.Prelude.{◌≡◌, ◌⊎◌, ◌↔◌, ◌*◌, ◌/◌, [], ◌++◌, IfOk, IfSome, IsTrue, None, OnOk, min};
+ghost use Rattle.std.specs.Prelude.{refl};
+ghost use Rattle.std.specs.Duration.{as_nanos};
 ghost use Rattle.flash_framing.specs.Framing.{Framed};
 ghost use Rattle.flash_lite.specs.declared.layout.TheConstants.{NET_POOL};
+ghost use Rattle.flash_framing.specs.Progress as framing;
+ghost use Rattle.flash_log.specs.Line.{line_of};
 ghost use Rattle.flash_site.specs.World.{BeginsSiteIn};
+ghost use Rattle.flashd.specs.Records.{LogsTo};
+ghost use Rattle.flashd.specs.Looks.{IsDue};
+ghost use Rattle.flashd.specs.declared.service.TheConstants.{PAUSE_LOOKS};
 
 use crate::notices::{tell_outgrown, tell_site};
 use crate::storage::{InMemory, Storage};
@@ -60,7 +67,13 @@ where
         source: Source<R>,
         summary: Summary,
         log: Option<AccessLog<W>>,
-    ) -> Result<SiteService<R, W, K>, AllocError> {
+    ) -> Result<SiteService<R, W, K>, AllocError>
+        ensures root { IfOk result (λ service. service.root.bytes.items ≡ root.now) }
+        ensures source { IfOk result (λ service. service.source ≡ source) }
+        ensures summary { IfOk result (λ service. service.summary ≡ summary) }
+        ensures log { IfOk result (λ service. service.log ≡ log) }
+        ensures next_look { IfOk result (λ service. service.next_look ≡ None) }
+    {
         tell_site(rt, root, &summary);
         Ok(SiteService {
             rt: rt.clone()?,
@@ -74,7 +87,10 @@ where
     }
 
     // Adds a line to the log.
-    fn log(&mut self, exchange: &Exchange<'_>) -> io::Result<()> {
+    fn log(&mut self, exchange: &Exchange<'_>) -> io::Result<()>
+        ensures line { OnOk result (LogsTo exchange.now self.old.log self.new.log) }
+        ensures others { self.new ≡ record self.old { log = self.new.log } }
+    {
         let Some(log) = &mut self.log else {
             return Ok(());
         };
@@ -83,30 +99,33 @@ where
         let host = format!(in alloc; "{ip}")?;
         let date = log_date(alloc, seconds_now(&self.rt)?)?;
         let head = head_length(exchange.head).unwrap_or(exchange.head.len()) as u64;
-        log.add(&Entry {
+        let entry = Entry {
             host: host.as_bytes(),
             date: &date,
             request_line: request_line(exchange.request),
             status: status_of(exchange.head),
             body: exchange.sent.saturating_sub(head),
-        })?;
-        if log.is_full() {
-            log.flush();
-        }
+        };
+        add_line(log, &entry)?;
         Ok(())
     }
 
     // Whether the folder is to be checked now.
-    fn is_time(&self, now: &Instant) -> bool {
+    fn is_time(&self, now: &Instant) -> bool
+        ensures { IsTrue result ↔ IsDue self.now.next_look now.now }
+    {
         match &self.next_look {
-            Some(next) => now >= next,
+            Some(next) => now.checked_duration_since(*next).is_some(),
             None => true,
         }
     }
 
     // A new world, if the folder changed. A folder that takes long to check is checked less often.
     fn look(&mut self, is_worn: bool) -> io::Result<Option<World<TreeBacking<R>, Actor>>>
-        ensures { IfOk result (λ renewed. IfSome renewed (BeginsSiteIn K.IN_MEMORY)) }
+        ensures begins { IfOk result (λ renewed. IfSome renewed (BeginsSiteIn K.IN_MEMORY)) }
+        ensures root { self.new.source.root ≡ self.old.source.root }
+        ensures preload { self.new.source.preload ≡ self.old.source.preload }
+        ensures log { self.new.log ≡ self.old.log }
     {
         let start = Instant::now(&self.rt)?;
         if !is_worn && !self.is_time(&start) {
@@ -122,7 +141,9 @@ where
     }
 
     // Reports a site that was read, if its notices differ from the last ones.
-    fn tell(&mut self, summary: Summary) {
+    fn tell(&mut self, summary: Summary)
+        ensures { self.new ≡ record self.old { summary = summary } }
+    {
         let before = mem::replace(&mut self.summary, summary);
         if summary.is_in_memory == before.is_in_memory && summary.skipped == before.skipped {
             return;
@@ -145,6 +166,17 @@ fn world_in<R: Files + Drop, K: Storage>(loaded: Loaded<R>) -> Option<World<Tree
     Some(loaded.world)
 }
 
+// Adds the line of an entry, and writes all lines if there are enough.
+fn add_line<W: Write>(log: &mut AccessLog<W>, entry: &Entry<'_>) -> Result<(), AllocError>
+    ensures { OnOk result ((log.new ≡ log.old ++ line_of entry.now) ⊎ (log.new ≡ [])) }
+{
+    log.add(entry)?;
+    if log.is_full() {
+        log.flush();
+    }
+    Ok(())
+}
+
 // The seconds since 1970.
 fn seconds_now<R: Clock>(clock: &R) -> io::Result<u64> {
     match SystemTime::now(clock)?.duration_since(UNIX_EPOCH) {
@@ -154,7 +186,10 @@ fn seconds_now<R: Clock>(clock: &R) -> io::Result<u64> {
 }
 
 // The pause after a check that took some time.
-fn pause_after(took: Duration) -> Duration {
+fn pause_after(took: Duration) -> Duration
+    ensures { as_nanos result
+        ≡ min (as_nanos took / 1_000_000) 1_000_000_000 * PAUSE_LOOKS * 1_000_000 }
+{
     let millis = took.as_millis().min(1_000_000_000) as u64;
     Duration::from_millis(millis.saturating_mul(PAUSE_LOOKS))
 }
@@ -180,16 +215,23 @@ where
         frame_of(alloc, bytes)
     }
 
-    fn progress(&self, exchange: &Exchange<'_>) -> Progress {
+    fn progress(&self, exchange: &Exchange<'_>) -> Progress
+        ensures { result ≡ framing.progress_of exchange.now }
+    {
         progress_of(exchange)
     }
 
-    fn record(&mut self, exchange: &Exchange<'_>) {
+    fn record(&mut self, exchange: &Exchange<'_>)
+        ensures { self.new ≡ record self.old { log = self.new.log } }
+    {
         let _ = self.log(exchange);
     }
 
     // Writes the rest of the log.
-    fn flush(&mut self) {
+    fn flush(&mut self)
+        ensures written { IfSome self.new.log (λ log. log ≡ []) }
+        ensures others { self.new ≡ record self.old { log = self.new.log } }
+    {
         if let Some(log) = &mut self.log {
             log.flush();
         }
