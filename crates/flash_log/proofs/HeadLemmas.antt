@@ -1,6 +1,7 @@
 -- Lines and numbers of heads.
 use Rattle.std.proofs.Common.{◌≡◌, ◌≢◌, ◌∙◌, ◌++◌, ◌+◌, ◌-◌, ◌*◌, ◌^◌, ◌<◌, ◌≤◌, ◌&&◌, ℕ, Bool, List, Some, None}
-use Rattle.std.proofs.Common.{codes, find, get_or, length, nat_lt, suc, sym, take, true, false, arith, refl, if◌then◌else◌, ap, subst}
+use Rattle.std.proofs.Common.{codes, find, get_or, length, nat_lt, suc, sym, take, true, false, arith, refl}
+use Rattle.std.proofs.Common.{if◌then◌else◌, ap, subst}
 use Rattle.std.proofs.lemmas.Bool.Decides.{nat_tests, same_from_decides}
 use Rattle.std.proofs.lemmas.Int.Digits.{digits_value_more}
 use Rattle.std.proofs.lemmas.List.{append_cancel_right, take_all}
@@ -75,7 +76,8 @@ pub whole : (ds : List ℕ) (i n : ℕ) → length ds ≤ i → n < 2 ^ 64 → l
     → n ≡ digits_value 10 (take i ds) → Some n ≡ number_in ds
 whole ds i n past small all e =
     let same : take i ds ≡ ds = take_all i ds past in
-    let digits : list_all is_ascii_digit ds ≡ true = subst (λ (xs : List ℕ). list_all is_ascii_digit xs ≡ true) same all in
+    let digits : list_all is_ascii_digit ds ≡ true = subst (λ (xs : List ℕ). list_all is_ascii_digit xs ≡ true) same
+    all in
     let value : n ≡ digits_value 10 ds = subst (λ (xs : List ℕ). n ≡ digits_value 10 xs) same e in
     let below : nat_lt (digits_value 10 ds) (2 ^ 64) ≡ true = rw (← value) (grind (arith, nat_tests)) in
     rw (digits, below) (ap (λ (k : ℕ). Some k) value)

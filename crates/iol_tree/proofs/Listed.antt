@@ -1,5 +1,6 @@
 -- Files that are added to an index, one after another, or counted.
-use Rattle.std.proofs.Common.{◌≡◌, ◌+◌, ◌<◌, ◌≤◌, ◌∙◌, ◌∷◌, ◌^◌, [], ℕ, List, ap, arith, inl, inr, length, refl, subst, sym, take}
+use Rattle.std.proofs.Common.{◌≡◌, ◌+◌, ◌<◌, ◌≤◌, ◌∙◌, ◌∷◌, ◌^◌, [], ℕ, List, ap, arith, inl, inr, length, refl, subst}
+use Rattle.std.proofs.Common.{sym, take}
 use Rattle.std.proofs.lemmas.List.{length_push, length-take, take-append-le, take_all}
 use Rattle.iol_tree.specs.Index.{AddsOrSkips, IndexedFiles, ListsOrCounts, raised_by}
 
@@ -13,7 +14,8 @@ listed_none s fits = record {
 }
 
 -- the next one is added or skipped
-pub listed_more : (old now new : IndexedFiles) (n m : ℕ) (name : List ℕ) → ListsOrCounts n old now → AddsOrSkips name now new
+pub listed_more : (old now new : IndexedFiles) (n m : ℕ) (name : List ℕ) → ListsOrCounts n old now
+    → AddsOrSkips name now new
     → m ≡ n + 1
     → ListsOrCounts m old new
 listed_more old now new n m name lists taken is = elim taken [

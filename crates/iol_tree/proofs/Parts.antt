@@ -1,5 +1,6 @@
 -- Parts of an index.
-use Rattle.std.proofs.Common.{◌≡◌, ◌+◌, ◌-◌, ◌<◌, ◌≤◌, ◌∙◌, ◌++◌, ◌∷◌, ◌^◌, [], ℕ, List, All, Contains, Some, ap, arith, length, refl, slice_get, subst, sym}
+use Rattle.std.proofs.Common.{◌≡◌, ◌+◌, ◌-◌, ◌<◌, ◌≤◌, ◌∙◌, ◌++◌, ◌∷◌, ◌^◌, [], ℕ, List, All, Contains, Some, ap, arith}
+use Rattle.std.proofs.Common.{length, refl, slice_get, subst, sym}
 use Rattle.std.specs.List.{zip}
 use Rattle.std.proofs.lemmas.List.{length_push}
 use Rattle.std.proofs.lemmas.List.Elements.{All-push}
@@ -52,21 +53,24 @@ part_none all some root skipped is same count fits = subst (λ (i : IndexedFiles
 pub part_added : (all some new : IndexedFiles) (n : ℕ) (name : List ℕ) (stamp : Stamp) → ArePart all n some
     → slice_get all.names n ≡ Some name → slice_get all.stamps n ≡ Some stamp → new ≡ with_file some name stamp
     → ArePart all (n + 1) new
-part_added all some new n name stamp part named stamped is = subst (λ (i : IndexedFiles). ArePart all (n + 1) i) (sym is) (record {
-  root = part.root;
-  files = subst (λ fs. All (λ file. Contains (zip all.names all.stamps) file) fs)
-      (sym (zip-push some.names some.stamps name stamp part.stamped))
-      (All-push (λ file. Contains (zip all.names all.stamps) file) _ _ part.files (in_zip _ _ n name stamp named stamped));
-  stamped = longer ∙ ap (λ k. k + 1) part.stamped ∙ sym (length_push some.stamps stamp);
-  few = omega (arith, part.few, longer);
-  skipped = omega (arith, part.few, part.skipped, longer);
-})
+part_added all some new n name stamp part named stamped is = subst (λ (i : IndexedFiles). ArePart all (n + 1) i)
+    (sym is) (record {
+      root = part.root;
+      files = subst (λ fs. All (λ file. Contains (zip all.names all.stamps) file) fs)
+          (sym (zip-push some.names some.stamps name stamp part.stamped))
+          (All-push (λ file. Contains (zip all.names all.stamps) file) _ _ part.files
+          (in_zip _ _ n name stamp named stamped));
+      stamped = longer ∙ ap (λ k. k + 1) part.stamped ∙ sym (length_push some.stamps stamp);
+      few = omega (arith, part.few, longer);
+      skipped = omega (arith, part.few, part.skipped, longer);
+    })
   where
     longer : length (some.names ++ name ∷ []) ≡ length some.names + 1
     longer = length_push some.names name
 
 -- the next file is left out
-pub part_skipped : (all some new : IndexedFiles) (n : ℕ) → ArePart all n some → new ≡ with_skipped some → ArePart all (n + 1) new
+pub part_skipped : (all some new : IndexedFiles) (n : ℕ) → ArePart all n some → new ≡ with_skipped some
+    → ArePart all (n + 1) new
 part_skipped all some new n part is = subst (λ (i : IndexedFiles). ArePart all (n + 1) i) (sym is) (record {
   root = part.root;
   files = part.files;

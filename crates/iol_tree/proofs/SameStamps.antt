@@ -20,7 +20,8 @@ times_decide : (a b : ℤ × ℤ) → Decides (int_eq a.0 b.0 && int_eq a.1 b.1)
 times_decide a b = (
   (λ e. let so = both_so (int_eq a.0 b.0) (int_eq a.1 b.1) e in
       λ i. ((Decides-int_eq a.0 b.0).0 so.0 i, (Decides-int_eq a.1 b.1).0 so.1 i)),
-  (λ e. λ i. (Decides-int_eq a.0 b.0).1 (ap (λ (p : ℤ × ℤ). p.0) e) i && (Decides-int_eq a.1 b.1).1 (ap (λ (p : ℤ × ℤ). p.1) e) i),
+  (λ e. λ i. (Decides-int_eq a.0 b.0).1 (ap (λ (p : ℤ × ℤ). p.0) e) i && (Decides-int_eq a.1 b.1).1
+      (ap (λ (p : ℤ × ℤ). p.1) e) i),
 )
 
 -- the derived test of two stamps
@@ -43,7 +44,8 @@ same x y e =
 itself : (x : Stamp) → eq-value.it x x ≡ true
 itself x = λ i.
     (Decides-eqb x.device x.device).1 refl i && ((Decides-eqb x.node x.node).1 refl i
-    && ((Decides-eqb x.length x.length).1 refl i && ((times_decide x.written x.written).1 refl i && (times_decide x.changed x.changed).1 refl i)))
+    && ((Decides-eqb x.length x.length).1 refl i && ((times_decide x.written x.written).1 refl i &&
+    (times_decide x.changed x.changed).1 refl i)))
 
 pub stamp_decides : (x y : Stamp) → Decides (eq-value.it x y) (x ≡ y)
 stamp_decides x y = (same x y, λ e. subst (λ z. eq-value.it x z ≡ true) e (itself x))

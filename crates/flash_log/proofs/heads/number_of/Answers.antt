@@ -20,7 +20,8 @@ returns-in_err-number c =
 pub loop-digit-preserved : goal.loop-digit-preserved
 loop-digit-preserved c =
     let is : is_ascii_digit (get_or c.args.digits.now c.loop-digit.digit-index 0) ≡ true = search rules in
-    let n : c.in_ok-number.number ≡ c.loop-digit.number * 10 + (get_or c.args.digits.now c.loop-digit.digit-index 0 - 48) =
+    let n : c.in_ok-number.number ≡ c.loop-digit.number * 10 +
+    (get_or c.args.digits.now c.loop-digit.digit-index 0 - 48) =
     search rules in (
       all_digits c.args.digits.now c.loop-digit.digit-index c.loop-digit-test.true is c.loop-digit.invariant.0,
       n ∙ more c.args.digits.now c.loop-digit.digit-index c.loop-digit.number c.loop-digit-test.true is

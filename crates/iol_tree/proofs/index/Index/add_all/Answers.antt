@@ -22,4 +22,5 @@ loop-name-preserved g c =
 pub returns : goal.returns
 returns g c =
     subst (λ n. ListsOrCounts n c.args.self.now c.loop-name.self)
-    (omega (arith, c.loop-name.invariant.count, c.loop-name.name-iterator.rest.ok.0, c.in-None.ensures.steps.0)) c.loop-name.invariant.lists
+    (omega (arith, c.loop-name.invariant.count, c.loop-name.name-iterator.rest.ok.0, c.in-None.ensures.steps.0))
+    c.loop-name.invariant.lists

@@ -1,7 +1,8 @@
 use Rattle.std.proofs.Common.{◌∙◌, rules, arith, string_bytes}
 use Rattle.iol_tree.proofs.Parts.{part_none, part_added, part_skipped, part_of}
 use Rattle.iol_tree.proofs.index.Index.readable.Goals as goal
-use Rattle.iol_tree.proofs.index.Index.readable.Goals.{then-takes+then-not-is_denied+in_ok-from_str+in_ok-add, else-takes}
+use Rattle.iol_tree.proofs.index.Index.readable.Goals.{then-takes+then-not-is_denied+in_ok-from_str+in_ok-add}
+use Rattle.iol_tree.proofs.index.Index.readable.Goals.{else-takes}
 
 pub loop-place-init : goal.loop-place-init
 loop-place-init g c =
@@ -13,7 +14,8 @@ loop-place-preserved g c = elim c.if-takes.branch [
   | then-takes+then-not-is_denied+in_ok-from_str+in_ok-add w ↦
       part_added c.args.self.now c.loop-place.index c.if-takes.index c.loop-place.place
       (string_bytes w.in_ok-from_str.field-0) w.stamp.result c.loop-place.invariant
-      (search (rules, c.name-name.ensures, w.in_ok-from_str.ensures.ok)) w.stamp.ensures (w.index-is ∙ w.in_ok-add.ensures.added)
+      (search (rules, c.name-name.ensures, w.in_ok-from_str.ensures.ok)) w.stamp.ensures
+      (w.index-is ∙ w.in_ok-add.ensures.added)
   | else-takes w ↦
       part_skipped c.args.self.now c.loop-place.index c.if-takes.index c.loop-place.place c.loop-place.invariant
       (w.index-is ∙ w.skip.ensures)
@@ -22,4 +24,5 @@ loop-place-preserved g c = elim c.if-takes.branch [
 pub returns : goal.returns
 returns g c =
     part_of c.args.self.now c.loop-place.index c.loop-place.place
-    (omega (arith, c.loop-place-test.false, c.loop-place.auto.place-end, c.count-place-end.ensures.count)) c.loop-place.invariant
+    (omega (arith, c.loop-place-test.false, c.loop-place.auto.place-end, c.count-place-end.ensures.count))
+    c.loop-place.invariant
