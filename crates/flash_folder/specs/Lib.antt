@@ -1,2 +1,4 @@
-pub mod Fault
 pub mod Announcement
+pub mod Fault
+pub mod Serving
+pub mod World

@@ -1,7 +1,9 @@
 //! A site with the files of a folder, and the world that serves it.
 ghost use Rattle.std.specs.Prelude.{◌≡◌, ◌<◌, IfErr, IfOk, Some, true, false, length, slice_get};
 ghost use Rattle.iol_core.specs.declared.limits.TheConstants.{MAX_FILES};
+ghost use Rattle.iol_back.specs.Folder.{AreNames};
 ghost use Rattle.flash_folder.specs.Fault.{StopsStart};
+ghost use Rattle.flash_folder.specs.World.{BeginsFolder, IsFolderWorld};
 ghost use Rattle.flash_lite.specs.Prelude.{AreFilesOf, is_in_range};
 
 use crate::fault::Fault;
@@ -16,11 +18,13 @@ use std::alloc::{AllocError, Global};
 use std::rt::Files;
 
 /// Creates a world that serves the files of a folder, with their current contents.
+#[tactic(auto, using(crate::proofs::Begins::begins_folder))]
 pub fn world_of<R: Files + AllocGlobal + Clone + Drop>(
     rt: &R,
     root: &str,
 ) -> Result<World<FolderBacking<R>, Actor>, Fault>
-    ensures { IfErr result StopsStart }
+    ensures fault { IfErr result StopsStart }
+    ensures world { IfOk result BeginsFolder }
 {
     let store = match FolderBacking::new(rt, root) {
         Ok(store) => store,
@@ -35,7 +39,8 @@ pub fn world_of<R: Files + AllocGlobal + Clone + Drop>(
 
 // All files of a store, by slot, readable by all.
 fn files_of<R: Files>(alloc: Global, store: &FolderBacking<R>) -> Result<Vec<SiteFile>, AllocError>
-    ensures { IfOk result (λ files. AreFilesOf store.now.names files.items) }
+    ensures files { IfOk result (λ files. AreFilesOf store.now.names files.items) }
+    ensures names { AreNames store.now.names }
 {
     let mut files = Vec::new(alloc);
     for place in 0..store.count() {
@@ -65,6 +70,7 @@ fn file_at<R: Files>(
 fn site_of<R: Files>(alloc: Global, store: &FolderBacking<R>) -> Result<Site, AllocError>
     ensures files { IfOk result (λ site. AreFilesOf store.now.names site.files.items) }
     ensures range { IfOk result (λ site. is_in_range site ≡ true) }
+    ensures names { AreNames store.now.names }
 {
     Ok(Site::of_shared(files_of(alloc, store)?))
 }
@@ -73,7 +79,9 @@ fn site_of<R: Files>(alloc: Global, store: &FolderBacking<R>) -> Result<Site, Al
 fn world_over<R: Files + Drop>(
     alloc: Global,
     store: FolderBacking<R>,
-) -> Result<World<FolderBacking<R>, Actor>, Refusal> {
+) -> Result<World<FolderBacking<R>, Actor>, Refusal>
+    ensures { IfOk result (λ world. IsFolderWorld store world) }
+{
     let site = site_of(alloc, &store)?;
     let hosted = flash_lite::host::host(alloc, Config::DEFAULT, store, &site, &[], 0)?;
     Ok(hosted.world)

@@ -1,7 +1,9 @@
 //! The server of a folder.
-ghost use Rattle.std.specs.Prelude.{◌≡◌, ◌⊎◌, IfErr, IfOk, OnOk, Some};
+ghost use Rattle.std.specs.Prelude.{◌≡◌, ◌≤◌, ◌⊎◌, IfErr, IfOk, OnOk, Some, length};
 ghost use Rattle.flash_folder.specs.Fault.{StopsServing, StopsStart};
 ghost use Rattle.flash_folder.specs.Announcement.{Announces, AnnouncesPort};
+ghost use Rattle.flash_folder.specs.Serving.{limits_for};
+ghost use Rattle.flash_folder.specs.World.{BeginsFolder};
 
 use crate::fault::{Fault, ended};
 use crate::folder::world_of;
@@ -84,6 +86,9 @@ impl<R: Files + Drop> Server<FolderBacking<R>, FolderService> {
         R: Net + AllocGlobal + Clone,
         ensures fault { IfErr result (λ fault. StopsStart fault ⊎ (fault ≡ Fault.Listen)) }
         ensures count { IfOk result (λ server. server.reactor.acceptor.left ≡ Some count) }
+        ensures limits { IfOk result (λ server. server.reactor.engine.limits ≡ limits_for count) }
+        ensures world { IfOk result
+            (λ server. BeginsFolder server.reactor.engine.places.worlds.current.world) }
     {
         let world = world_of(rt, root)?;
         let address = SocketAddr::from((Ipv4Addr::LOCALHOST, port));
@@ -105,7 +110,10 @@ impl<R: Files + Drop> Server<FolderBacking<R>, FolderService> {
 
     /// Serves the connections. It returns when all have ended, or none can be accepted.
     pub fn serve(&mut self, clock: &impl Clock) -> Result<(), Fault>
-        ensures { IfErr result StopsServing }
+        ensures fault { IfErr result StopsServing }
+        ensures done { OnOk result (self.new.reactor.acceptor.left ≡ Some 0) }
+        ensures gone { OnOk result (length self.new.reactor.engine.places.clients.items
+            ≤ length self.new.reactor.engine.free.items) }
     {
         let mut service = FolderService;
         match self.reactor.serve(clock, &mut service) {
@@ -117,7 +125,7 @@ impl<R: Files + Drop> Server<FolderBacking<R>, FolderService> {
 
 // The limits of a service that accepts this number of connections.
 fn limits_of(count: u32) -> Limits
-    ensures { result.stop_after ≡ Some count }
+    ensures { result ≡ limits_for count }
 {
     let mut limits = Limits::DEFAULT;
     limits.stop_after = Some(count);

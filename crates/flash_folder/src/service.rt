@@ -1,4 +1,8 @@
 //! A folder, as a service of the event loop.
+ghost use Rattle.std.specs.Prelude.{◌≡◌, IfOk, OnErr};
+ghost use Rattle.flash_framing.specs.Framing.{Framed, LooksAtFirst};
+ghost use Rattle.flash_framing.specs.Progress as framing;
+ghost use Rattle.flash_http.specs.Prelude.{window_in};
 ghost use Rattle.flash_lite.specs.declared.layout.TheConstants.{NET_POOL};
 
 use flash_framing::{frame_of, progress_of};
@@ -20,11 +24,19 @@ impl<R: Files> Service<FolderBacking<R>, Actor> for FolderService {
 
     ghost POOL = { NET_POOL };
 
-    fn frame(&self, alloc: Global, bytes: &[u8]) -> Result<Frame, AllocError> {
+    // The first request, by its window and its head.
+    ghost frames = { Framed };
+
+    fn frame(&self, alloc: Global, bytes: &[u8]) -> Result<Frame, AllocError>
+        ensures frame { IfOk result (λ frame. Framed bytes.now frame) }
+        ensures memory { OnErr result (LooksAtFirst (window_in bytes.now) bytes.now) }
+    {
         frame_of(alloc, bytes)
     }
 
-    fn progress(&self, exchange: &Exchange<'_>) -> Progress {
+    fn progress(&self, exchange: &Exchange<'_>) -> Progress
+        ensures { result ≡ framing.progress_of exchange.now }
+    {
         progress_of(exchange)
     }
 

@@ -1,1 +1,3 @@
 pub mod Begins
+pub mod Bytes
+pub mod Found

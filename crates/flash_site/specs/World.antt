@@ -1,6 +1,6 @@
 -- The world of a site of files.
-use Rattle.std.specs.Prelude.{◌≡◌, ℕ, Bool, List, [], IsTrue, length}
-use Rattle.iol_back.specs.Disk.{Disk}
+use Rattle.std.specs.Prelude.{◌≡◌, ℕ, ◌-◌, ◌^◌, All, Bool, Contains, List, [], IsFalse, IsTrue, length, min, sum}
+use Rattle.iol_back.specs.Disk.{Disk, content, length_reported}
 use Rattle.iol_core.specs.declared.configuration.Config.{Config}
 use Rattle.iol_core.specs.declared.configuration.TheConstants.Config.{DEFAULT}
 use Rattle.iol_core.specs.declared.events.Reply.{Reply}
@@ -38,15 +38,35 @@ pub record IsSiteWorld (world : WorldState SystemState (Actor Worker)) : Type 0 
 abbrev pub BeginsSite : (world : WorldState SystemState (Actor Worker)) → Type 0
 BeginsSite world = ∥ IsSiteWorld world ∥₁
 
--- The world of a site of this number of files over some store, before its first turn, with the default parameters.
-pub record IsSiteOf (count : ℕ) (world : WorldState SystemState (Actor Worker)) : Type 0 where
+-- The files of a store have this number of bytes together, at most 2^64 - 1 of them counted: by their bytes in an honest
+-- store, by their reported lengths in any other.
+pub record HasBytes (store : Disk) (bytes : ℕ) : Type 0 where
+  pub lengths : List ℕ
+  pub honest : IsTrue store.honest → (f : ℕ) → length (content store.slots f) ≡ length_reported lengths f
+  pub reported : IsFalse store.honest → store.reported ≡ lengths
+  pub total : bytes ≡ min (sum lengths) (2 ^ 64 - 1)
+
+-- The world of a site of this number of files over some store, in which they have this number of bytes, before its first
+-- turn, with the default parameters.
+pub record IsSiteOf (count bytes : ℕ) (world : WorldState SystemState (Actor Worker)) : Type 0 where
   pub names : List (List ℕ)
   pub store : Disk
   pub is : IsWorldOf names store world
   pub count-is : length names ≡ count
+  pub bytes-are : HasBytes store bytes
 
-abbrev pub BeginsSiteOf : (count : ℕ) → (world : WorldState SystemState (Actor Worker)) → Type 0
-BeginsSiteOf count world = ∥ IsSiteOf count world ∥₁
+abbrev pub BeginsSiteOf : (count bytes : ℕ) → (world : WorldState SystemState (Actor Worker)) → Type 0
+BeginsSiteOf count bytes world = ∥ IsSiteOf count bytes world ∥₁
+
+-- The world of a site of some of these files over some store, before its first turn, with the default parameters.
+pub record IsSiteAmong (found : List (List ℕ)) (world : WorldState SystemState (Actor Worker)) : Type 0 where
+  pub names : List (List ℕ)
+  pub store : Disk
+  pub is : IsWorldOf names store world
+  pub among : All (λ name. Contains found name) names
+
+abbrev pub BeginsSiteAmong : (found : List (List ℕ)) → (world : WorldState SystemState (Actor Worker)) → Type 0
+BeginsSiteAmong found world = ∥ IsSiteAmong found world ∥₁
 
 -- A world of a site over an honest store, if the site is to be in memory.
 pub record BeginsSiteIn (in_memory : Bool) (world : WorldState SystemState (Actor Worker)) : Type 0 where

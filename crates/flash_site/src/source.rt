@@ -1,10 +1,12 @@
 //! Reads a site from a folder, and again when it changes.
 ghost use Rattle.std.specs.Prelude.{◌≡◌, ◌⊎◌, ◌-◌, ◌*◌, ◌/◌, ◌%◌, ◌^◌, ◌<◌, IfOk, IsTrue, None, Ok};
-ghost use Rattle.std.specs.Prelude.{OnErr, OnOk, false, length, pos, true};
+ghost use Rattle.std.specs.Prelude.{OnErr, OnOk, false, length, min, pos, sum, true};
 ghost use Rattle.std.specs.Duration.{as_nanos};
+ghost use Rattle.iol_tree.specs.Index.{IsPartOf, file_lengths};
 ghost use Rattle.iol_tree.specs.Store.{disk_of};
-ghost use Rattle.flash_site.specs.Reads.{IfRead, StaysUnlessRead, is_within};
-ghost use Rattle.flash_site.specs.World.{BeginsSite, BeginsSiteOf};
+ghost use Rattle.flash_site.specs.Reads.{IfRead, MayRemember, Remembers, StaysUnlessRead};
+ghost use Rattle.flash_site.specs.Reads.{is_within};
+ghost use Rattle.flash_site.specs.World.{BeginsSite, BeginsSiteOf, HasBytes, IsWorldOf};
 ghost use Rattle.flash_site.specs.declared.source.TheConstants.{GRAIN_NANOS};
 
 use crate::site::world_of;
@@ -50,7 +52,7 @@ pub struct Loaded<R: Files> {
     pub world: World<TreeBacking<R>, Actor>,
     pub summary: Summary,
     ghost begins: { BeginsSite world },
-    ghost files: { BeginsSiteOf summary.files world },
+    ghost files: { BeginsSiteOf summary.files summary.bytes world },
     ghost honest: { world.machine.disk.honest ≡ summary.is_in_memory },
 }
 
@@ -77,6 +79,7 @@ impl<R: Files + Clock + AllocGlobal + Clone + Drop> Source<R> {
         ensures preload { IfOk result (λ source. source.preload ≡ preload) }
         ensures root { IfOk result (λ source. source.root.bytes.items ≡ root.now) }
         ensures unread { IfOk result (λ source. source.index ≡ None) }
+        ensures young { IfOk result (λ source. source.is_young ≡ false) }
     {
         Ok(Source {
             rt: rt.clone()?,
@@ -94,6 +97,9 @@ impl<R: Files + Clock + AllocGlobal + Clone + Drop> Source<R> {
         ensures preload { self.new.preload ≡ self.old.preload }
         ensures memory { IfOk result (λ loaded. IsTrue loaded.summary.is_in_memory
             → IsTrue (is_within self.old.preload loaded.summary.bytes)) }
+        ensures remembers { IfOk result (λ loaded.
+            MayRemember self.old.root.bytes.items loaded.summary loaded.world self.new.index) }
+        ensures young { OnOk result (self.old.is_young ≡ true → self.new.is_young ≡ false) }
     {
         match self.load_steady()? {
             Some(loaded) => Ok(loaded),
@@ -108,6 +114,7 @@ impl<R: Files + Clock + AllocGlobal + Clone + Drop> Source<R> {
         ensures preload { self.new.preload ≡ self.old.preload }
         ensures folder { IfOk result (λ loaded. loaded.summary.is_in_memory ≡ false) }
         ensures unread { OnOk result (self.new.index ≡ None) }
+        ensures young { OnOk result (self.old.is_young ≡ true → self.new.is_young ≡ false) }
     {
         let found = Index::of(&self.rt, self.root.as_str())?;
         let index = found.readable(&self.rt)?;
@@ -126,6 +133,9 @@ impl<R: Files + Clock + AllocGlobal + Clone + Drop> Source<R> {
         ensures preload { self.new.preload ≡ self.old.preload }
         ensures memory { IfRead result (λ loaded. loaded.summary.is_in_memory
             ≡ is_within self.old.preload loaded.summary.bytes) }
+        ensures remembers { IfRead result (λ loaded.
+            Remembers self.old.root.bytes.items loaded.summary loaded.world self.new.index) }
+        ensures young { IfRead result (λ _. self.old.is_young ≡ true → self.new.is_young ≡ false) }
     {
         if !self.is_due(is_forced)? {
             return Ok(None);
@@ -162,6 +172,9 @@ impl<R: Files + Clock + AllocGlobal + Clone + Drop> Source<R> {
         ensures preload { self.new.preload ≡ self.old.preload }
         ensures memory { IfRead result (λ loaded. loaded.summary.is_in_memory
             ≡ is_within self.old.preload loaded.summary.bytes) }
+        ensures remembers { IfRead result (λ loaded.
+            Remembers self.old.root.bytes.items loaded.summary loaded.world self.new.index) }
+        ensures young { IfRead result (λ _. self.old.is_young ≡ true → self.new.is_young ≡ false) }
     {
         for _ in 0..ATTEMPTS {
             if let Some(loaded) = self.load_once()? {
@@ -178,6 +191,9 @@ impl<R: Files + Clock + AllocGlobal + Clone + Drop> Source<R> {
         ensures preload { self.new.preload ≡ self.old.preload }
         ensures memory { IfRead result (λ loaded. loaded.summary.is_in_memory
             ≡ is_within self.old.preload loaded.summary.bytes) }
+        ensures remembers { IfRead result (λ loaded.
+            Remembers self.old.root.bytes.items loaded.summary loaded.world self.new.index) }
+        ensures young { IfRead result (λ _. self.old.is_young ≡ true → self.new.is_young ≡ false) }
     {
         let found = Index::of(&self.rt, self.root.as_str())?;
         let index = found.readable(&self.rt)?;
@@ -201,17 +217,23 @@ impl<R: Files + Clock + AllocGlobal + Clone + Drop> Source<R> {
 
     // Reads the readable files of those that were found into memory. None: the folder changed while
     // it was read.
+    #[tactic(auto, using(crate::proofs::Bytes::held_bytes))]
     fn load_memory(
         &mut self,
         found: &Index,
         index: Index,
         bytes: u64,
     ) -> io::Result<Option<Loaded<R>>>
+        requires part { IsPartOf found.now index }
+        requires total { bytes ≡ min (sum (file_lengths index)) (2 ^ 64 - 1) }
         ensures stays { StaysUnlessRead result self.old self.new }
         ensures root { self.new.root ≡ self.old.root }
         ensures preload { self.new.preload ≡ self.old.preload }
         ensures memory { IfRead result (λ loaded. loaded.summary.is_in_memory ≡ true) }
         ensures bytes { IfRead result (λ loaded. loaded.summary.bytes ≡ bytes) }
+        ensures remembers { IfRead result (λ loaded.
+            Remembers self.old.root.bytes.items loaded.summary loaded.world self.new.index) }
+        ensures young { IfRead result (λ _. self.old.is_young ≡ true → self.new.is_young ≡ false) }
     {
         let contents = match read_all(&self.rt, &index) {
             Ok(contents) => contents,
@@ -234,11 +256,16 @@ impl<R: Files + Clock + AllocGlobal + Clone + Drop> Source<R> {
         index: Index,
         bytes: u64,
     ) -> io::Result<Option<Loaded<R>>>
+        requires part { IsPartOf found.now index }
+        requires total { bytes ≡ min (sum (file_lengths index)) (2 ^ 64 - 1) }
         ensures stays { StaysUnlessRead result self.old self.new }
         ensures root { self.new.root ≡ self.old.root }
         ensures preload { self.new.preload ≡ self.old.preload }
         ensures memory { IfRead result (λ loaded. loaded.summary.is_in_memory ≡ false) }
         ensures bytes { IfRead result (λ loaded. loaded.summary.bytes ≡ bytes) }
+        ensures remembers { IfRead result (λ loaded.
+            Remembers self.old.root.bytes.items loaded.summary loaded.world self.new.index) }
+        ensures young { IfRead result (λ _. self.old.is_young ≡ true → self.new.is_young ≡ false) }
     {
         let after = Index::of(&self.rt, self.root.as_str())?;
         if !found.is_same(&after) {
@@ -249,9 +276,13 @@ impl<R: Files + Clock + AllocGlobal + Clone + Drop> Source<R> {
     }
 
     // A store over the folder.
+    #[tactic(auto, using(crate::proofs::Bytes::reported_bytes))]
     fn on_disk(&self, index: Index) -> io::Result<TreeBacking<R>>
         ensures honest { IfOk result (λ store. (disk_of store).honest ≡ false) }
         ensures names { IfOk result (λ store. store.names ≡ index.names) }
+        ensures skipped { IfOk result (λ store. store.skipped ≡ index.skipped) }
+        ensures bytes { IfOk result (λ store. HasBytes (disk_of store)
+            (min (sum (file_lengths index)) (2 ^ 64 - 1))) }
     {
         Ok(TreeBacking::on_disk(self.rt.clone()?, self.rt.alloc(), index))
     }
@@ -264,6 +295,7 @@ impl<R: Files + Clock + AllocGlobal + Clone + Drop> Source<R> {
         bytes: u64,
         index: Option<Index>,
     ) -> io::Result<Loaded<R>>
+        requires { HasBytes (disk_of store) bytes }
         ensures err { OnErr result (self.new ≡ self.old) }
         ensures root { self.new.root ≡ self.old.root }
         ensures preload { self.new.preload ≡ self.old.preload }
@@ -273,6 +305,8 @@ impl<R: Files + Clock + AllocGlobal + Clone + Drop> Source<R> {
             ≡ (disk_of store).honest) }
         ensures bytes { IfOk result (λ loaded. loaded.summary.bytes ≡ bytes) }
         ensures files { IfOk result (λ loaded. loaded.summary.files ≡ length store.names) }
+        ensures world { IfOk result (λ loaded. IsWorldOf store.names (disk_of store) loaded.world) }
+        ensures skipped { IfOk result (λ loaded. loaded.summary.skipped ≡ store.skipped) }
     {
         let files = store.index();
         let summary = Summary {

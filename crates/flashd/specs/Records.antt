@@ -25,3 +25,7 @@ LogsTo exchange None None = ⊤
 LogsTo exchange (Some old) (Some new) = IsLogged exchange old new
 LogsTo exchange None (Some new) = ⊥
 LogsTo exchange (Some old) None = ⊥
+
+-- the same, or the line could not be made, and nothing has changed
+abbrev pub MayLogTo : Exchange → (old new : Option (List ℕ)) → Type 0
+MayLogTo exchange old new = LogsTo exchange old new ⊎ (new ≡ old)

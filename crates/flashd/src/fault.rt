@@ -34,6 +34,11 @@ pub enum Step<'a> {
 }
 
 impl fmt::Display for Step<'_> {
+    ghost use Rattle.std.specs.Prelude.{Some};
+    ghost use Rattle.flashd.specs.Faults.{step_text};
+
+    ghost output = { λ step. Some (step_text step) };
+
     fn fmt<W: fmt::Write>(&self, f: &mut fmt::Formatter<W>) -> fmt::Result {
         match self {
             Step::ReadWords => write!(f, "read the arguments"),
@@ -81,6 +86,10 @@ impl From<AllocError> for Fault<'_> {
 }
 
 impl fmt::Display for Fault<'_> {
+    ghost use Rattle.flashd.specs.Faults.{fault_text};
+
+    ghost output = { fault_text };
+
     fn fmt<W: fmt::Write>(&self, f: &mut fmt::Formatter<W>) -> fmt::Result {
         match self {
             Fault::OutOfMemory => write!(f, "out of memory"),

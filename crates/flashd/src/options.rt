@@ -1,9 +1,10 @@
 //! The options of the command line.
-ghost use Rattle.std.specs.Prelude.{◌≡◌, ◌*◌, ◌⊎◌, ℕ, Option, IfNone, IfSome, Some, None, codes};
-ghost use Rattle.std.specs.Prelude.{false, true};
+ghost use Rattle.std.specs.Prelude.{◌≡◌, ◌*◌, ◌⊎◌, ◌++◌, ℕ, Option, IfNone, IfOk, IfSome, Some};
+ghost use Rattle.std.specs.Prelude.{None, codes, false, true};
 ghost use Rattle.std.specs.Prelude.{option_map};
 ghost use Rattle.std.specs.Option.{option_map_or, unwrap_or};
 ghost use Rattle.clap.specs.Words.{first_value, found_of, one_text};
+ghost use Rattle.flashd.specs.Command as cmd;
 ghost use Rattle.flashd.specs.Options.{IsGiven, IsOmitted, ReadsText, SetsLimits, SetsPreload};
 ghost use Rattle.iol_reactor.specs.declared.limits.TheConstants.Limits.{DEFAULT};
 
@@ -161,7 +162,9 @@ fn rate_of(matches: &ArgMatches<'_>) -> u64
 }
 
 /// The command line: its options, and their help texts.
-pub fn command<'a>(alloc: Global) -> Result<Command<'a>, AllocError> {
+pub fn command<'a>(alloc: Global) -> Result<Command<'a>, AllocError>
+    ensures { IfOk result (λ c. cmd.arguments_of c ≡ cmd.arguments) }
+{
     let command = Command::new(alloc, "flashd")
         .version(VERSION)
         .about(ABOUT)
@@ -172,7 +175,10 @@ pub fn command<'a>(alloc: Global) -> Result<Command<'a>, AllocError> {
 }
 
 // The options that limit clients.
-fn clients_arguments<'a>(alloc: Global, command: Command<'a>) -> Result<Command<'a>, AllocError> {
+fn clients_arguments<'a>(alloc: Global, command: Command<'a>) -> Result<Command<'a>, AllocError>
+    ensures { IfOk result (λ c. cmd.arguments_of c
+        ≡ cmd.arguments_of command.entry ++ cmd.client_arguments) }
+{
     command
         .arg(stop_after(alloc))?
         .arg(max_clients(alloc))?
@@ -183,7 +189,10 @@ fn clients_arguments<'a>(alloc: Global, command: Command<'a>) -> Result<Command<
 }
 
 // The options for files.
-fn files_arguments<'a>(alloc: Global, command: Command<'a>) -> Result<Command<'a>, AllocError> {
+fn files_arguments<'a>(alloc: Global, command: Command<'a>) -> Result<Command<'a>, AllocError>
+    ensures { IfOk result (λ c. cmd.arguments_of c
+        ≡ cmd.arguments_of command.entry ++ cmd.file_arguments) }
+{
     command
         .arg(access_log(alloc))?
         .arg(preload_limit(alloc))?
@@ -191,7 +200,9 @@ fn files_arguments<'a>(alloc: Global, command: Command<'a>) -> Result<Command<'a
         .arg(memory_only(alloc)?)
 }
 
-fn listen<'a>(alloc: Global) -> Arg<'a> {
+fn listen<'a>(alloc: Global) -> Arg<'a>
+    ensures { cmd.IsArgument cmd.listen result }
+{
     Arg::new(alloc, "listen")
         .long("listen")
         .value_name("ADDR:PORT")
@@ -199,14 +210,18 @@ fn listen<'a>(alloc: Global) -> Arg<'a> {
         .help("Listen on this IP address and port; port 0 is any that is free")
 }
 
-fn root<'a>(alloc: Global) -> Arg<'a> {
+fn root<'a>(alloc: Global) -> Arg<'a>
+    ensures { cmd.IsArgument cmd.root result }
+{
     Arg::new(alloc, "root")
         .value_name("ROOT")
         .required(true)
         .help("Serve the files in this folder and in the folders below it")
 }
 
-fn stop_after<'a>(alloc: Global) -> Arg<'a> {
+fn stop_after<'a>(alloc: Global) -> Arg<'a>
+    ensures { cmd.IsArgument (cmd.option (codes "stop-after")) result }
+{
     Arg::new(alloc, "stop-after")
         .long("stop-after")
         .value_name("N")
@@ -214,7 +229,9 @@ fn stop_after<'a>(alloc: Global) -> Arg<'a> {
         .help("End after this number of clients")
 }
 
-fn max_clients<'a>(alloc: Global) -> Arg<'a> {
+fn max_clients<'a>(alloc: Global) -> Arg<'a>
+    ensures { cmd.IsArgument (cmd.option (codes "max-clients")) result }
+{
     Arg::new(alloc, "max-clients")
         .long("max-clients")
         .value_name("N")
@@ -224,7 +241,9 @@ fn max_clients<'a>(alloc: Global) -> Arg<'a> {
         )
 }
 
-fn idle_timeout<'a>(alloc: Global) -> Arg<'a> {
+fn idle_timeout<'a>(alloc: Global) -> Arg<'a>
+    ensures { cmd.IsArgument (cmd.option (codes "idle-timeout")) result }
+{
     Arg::new(alloc, "idle-timeout")
         .long("idle-timeout")
         .value_name("SECONDS")
@@ -232,7 +251,9 @@ fn idle_timeout<'a>(alloc: Global) -> Arg<'a> {
         .help("Close a connection after this time without a request [default: 60]")
 }
 
-fn request_timeout<'a>(alloc: Global) -> Arg<'a> {
+fn request_timeout<'a>(alloc: Global) -> Arg<'a>
+    ensures { cmd.IsArgument (cmd.option (codes "request-timeout")) result }
+{
     Arg::new(alloc, "request-timeout")
         .long("request-timeout")
         .value_name("SECONDS")
@@ -240,7 +261,9 @@ fn request_timeout<'a>(alloc: Global) -> Arg<'a> {
         .help("Close a connection whose request is not complete after this time [default: 10]")
 }
 
-fn min_rate<'a>(alloc: Global) -> Arg<'a> {
+fn min_rate<'a>(alloc: Global) -> Arg<'a>
+    ensures { cmd.IsArgument (cmd.option (codes "min-rate")) result }
+{
     Arg::new(alloc, "min-rate")
         .long("min-rate")
         .value_name("BYTES")
@@ -250,7 +273,9 @@ fn min_rate<'a>(alloc: Global) -> Arg<'a> {
         )
 }
 
-fn retire_timeout<'a>(alloc: Global) -> Arg<'a> {
+fn retire_timeout<'a>(alloc: Global) -> Arg<'a>
+    ensures { cmd.IsArgument (cmd.option (codes "retire-timeout")) result }
+{
     Arg::new(alloc, "retire-timeout")
         .long("retire-timeout")
         .value_name("SECONDS")
@@ -260,7 +285,9 @@ fn retire_timeout<'a>(alloc: Global) -> Arg<'a> {
         )
 }
 
-fn access_log<'a>(alloc: Global) -> Arg<'a> {
+fn access_log<'a>(alloc: Global) -> Arg<'a>
+    ensures { cmd.IsArgument (cmd.option (codes "access-log")) result }
+{
     Arg::new(alloc, "access-log")
         .long("access-log")
         .value_name("FILE")
@@ -269,7 +296,9 @@ fn access_log<'a>(alloc: Global) -> Arg<'a> {
         )
 }
 
-fn preload_limit<'a>(alloc: Global) -> Arg<'a> {
+fn preload_limit<'a>(alloc: Global) -> Arg<'a>
+    ensures { cmd.IsArgument (cmd.option (codes "preload-limit")) result }
+{
     Arg::new(alloc, "preload-limit")
         .long("preload-limit")
         .value_name("BYTES")
@@ -279,14 +308,18 @@ fn preload_limit<'a>(alloc: Global) -> Arg<'a> {
         )
 }
 
-fn no_preload<'a>(alloc: Global) -> Arg<'a> {
+fn no_preload<'a>(alloc: Global) -> Arg<'a>
+    ensures { cmd.IsArgument (cmd.flag (codes "no-preload")) result }
+{
     Arg::new(alloc, "no-preload")
         .long("no-preload")
         .action(ArgAction::SetTrue)
         .help("Read no file into memory: serve all from the folder")
 }
 
-fn memory_only<'a>(alloc: Global) -> Result<Arg<'a>, AllocError> {
+fn memory_only<'a>(alloc: Global) -> Result<Arg<'a>, AllocError>
+    ensures { IfOk result (cmd.IsArgument (cmd.flag (codes "memory-only"))) }
+{
     Arg::new(alloc, "memory-only")
         .long("memory-only")
         .action(ArgAction::SetTrue)

@@ -1,5 +1,5 @@
 //! The server.
-ghost use Rattle.std.specs.Prelude.{◌≡◌, [], IfOk, IfSome, IsTrue, OnOk, true};
+ghost use Rattle.std.specs.Prelude.{◌≡◌, ◌↔◌, [], IfOk, IfSome, IsSome, IsTrue, OnOk, Some, true};
 ghost use Rattle.std.specs.Fs.{new_options, with_append, with_create};
 ghost use Rattle.flash_site.specs.Reads.{is_within};
 ghost use Rattle.flash_site.specs.World.{BeginsSiteIn};
@@ -81,7 +81,9 @@ fn serve_site<'a, W: Write + Drop>(
     rt: &HostRuntime,
     options: &Options<'a>,
     log: Option<AccessLog<W>>,
-) -> Result<(), Fault<'a>> {
+) -> Result<(), Fault<'a>>
+    requires { IsSome log ↔ IsSome options.now.access_log }
+{
     let root = options.root;
     let read = read_site(rt, options);
     let (source, loaded) = read.map_err(|error| Fault::of(Step::Read(root), error))?;
@@ -105,6 +107,7 @@ fn serve_loaded<'a, W: Write + Drop, K: Storage>(
 ) -> Result<(), Fault<'a>>
     requires memory { K.IN_MEMORY ≡ true → loaded.summary.is_in_memory ≡ true }
     requires storage { K.IN_MEMORY ≡ options.now.memory_only }
+    requires log { IsSome log ↔ IsSome options.now.access_log }
 {
     let Loaded { world, summary } = loaded;
     let mut reactor = listen::<W, K>(rt, options, world)?;
@@ -136,7 +139,9 @@ fn serve_clients<'a, W: Write + Drop, K: Storage>(
     rt: &HostRuntime,
     service: Result<SiteService<HostRuntime, W, K>, AllocError>,
     reactor: &mut SiteReactor<W, K>,
-) -> Result<(), Fault<'a>> {
+) -> Result<(), Fault<'a>>
+    ensures { OnOk result (reactor.new.acceptor.left ≡ Some 0) }
+{
     let mut service = service?;
     serve_logged(rt, &mut service, reactor)
 }
@@ -147,7 +152,8 @@ fn serve_logged<'a, W: Write + Drop, K: Storage>(
     service: &mut SiteService<HostRuntime, W, K>,
     reactor: &mut SiteReactor<W, K>,
 ) -> Result<(), Fault<'a>>
-    ensures { IfSome service.new.log (λ log. log ≡ []) }
+    ensures written { IfSome service.new.log (λ log. log ≡ []) }
+    ensures done { OnOk result (reactor.new.acceptor.left ≡ Some 0) }
 {
     let served = match tell_address(rt, reactor) {
         Ok(()) => reactor

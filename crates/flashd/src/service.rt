@@ -1,13 +1,14 @@
 //! A site, as a service of the event loop.
-ghost use Rattle.std.specs.Prelude.{◌≡◌, ◌⊎◌, ◌↔◌, ◌*◌, ◌/◌, [], ◌++◌, IfOk, IfSome, IsTrue, None, OnOk, min};
-ghost use Rattle.std.specs.Prelude.{refl};
+ghost use Rattle.std.specs.Prelude.{◌≡◌, ◌⊎◌, ◌↔◌, ◌*◌, ◌/◌, [], ◌++◌, IfOk, IfSome, IsTrue, None};
+ghost use Rattle.std.specs.Prelude.{OnErr, OnOk, min, refl};
 ghost use Rattle.std.specs.Duration.{as_nanos};
-ghost use Rattle.flash_framing.specs.Framing.{Framed};
+ghost use Rattle.flash_framing.specs.Framing.{Framed, LooksAtFirst};
+ghost use Rattle.flash_http.specs.Prelude.{window_in};
 ghost use Rattle.flash_lite.specs.declared.layout.TheConstants.{NET_POOL};
 ghost use Rattle.flash_framing.specs.Progress as framing;
 ghost use Rattle.flash_log.specs.Line.{line_of};
 ghost use Rattle.flash_site.specs.World.{BeginsSiteIn};
-ghost use Rattle.flashd.specs.Records.{LogsTo};
+ghost use Rattle.flashd.specs.Records.{LogsTo, MayLogTo};
 ghost use Rattle.flashd.specs.Looks.{IsDue};
 ghost use Rattle.flashd.specs.declared.service.TheConstants.{PAUSE_LOOKS};
 
@@ -89,6 +90,7 @@ where
     // Adds a line to the log.
     fn log(&mut self, exchange: &Exchange<'_>) -> io::Result<()>
         ensures line { OnOk result (LogsTo exchange.now self.old.log self.new.log) }
+        ensures err { OnErr result (self.new.log ≡ self.old.log) }
         ensures others { self.new ≡ record self.old { log = self.new.log } }
     {
         let Some(log) = &mut self.log else {
@@ -168,7 +170,8 @@ fn world_in<R: Files + Drop, K: Storage>(loaded: Loaded<R>) -> Option<World<Tree
 
 // Adds the line of an entry, and writes all lines if there are enough.
 fn add_line<W: Write>(log: &mut AccessLog<W>, entry: &Entry<'_>) -> Result<(), AllocError>
-    ensures { OnOk result ((log.new ≡ log.old ++ line_of entry.now) ⊎ (log.new ≡ [])) }
+    ensures added { OnOk result ((log.new ≡ log.old ++ line_of entry.now) ⊎ (log.new ≡ [])) }
+    ensures refused { OnErr result (log.new ≡ log.old) }
 {
     log.add(entry)?;
     if log.is_full() {
@@ -211,7 +214,10 @@ where
     // The first request, by its window and its head.
     ghost frames = { Framed };
 
-    fn frame(&self, alloc: Global, bytes: &[u8]) -> Result<Frame, AllocError> {
+    fn frame(&self, alloc: Global, bytes: &[u8]) -> Result<Frame, AllocError>
+        ensures frame { IfOk result (λ frame. Framed bytes.now frame) }
+        ensures memory { OnErr result (LooksAtFirst (window_in bytes.now) bytes.now) }
+    {
         frame_of(alloc, bytes)
     }
 
@@ -222,7 +228,8 @@ where
     }
 
     fn record(&mut self, exchange: &Exchange<'_>)
-        ensures { self.new ≡ record self.old { log = self.new.log } }
+        ensures line { MayLogTo exchange.now self.old.log self.new.log }
+        ensures others { self.new ≡ record self.old { log = self.new.log } }
     {
         let _ = self.log(exchange);
     }
@@ -237,7 +244,12 @@ where
         }
     }
 
-    fn renew(&mut self, is_worn: bool) -> Option<World<TreeBacking<R>, Actor>> {
+    fn renew(&mut self, is_worn: bool) -> Option<World<TreeBacking<R>, Actor>>
+        ensures begins { IfSome result (BeginsSiteIn K.IN_MEMORY) }
+        ensures root { self.new.source.root ≡ self.old.source.root }
+        ensures preload { self.new.source.preload ≡ self.old.source.preload }
+        ensures log { self.new.log ≡ self.old.log }
+    {
         match self.look(is_worn) {
             Ok(world) => world,
             Err(_) => None,

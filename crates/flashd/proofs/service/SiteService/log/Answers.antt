@@ -20,5 +20,5 @@ returns-clause-line g c =
         status-is = c.status_of.ensures;
         body-is = search rules;
       };
-      added = c.in_ok-add_line.ensures;
+      added = c.in_ok-add_line.ensures.added;
     })
