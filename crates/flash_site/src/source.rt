@@ -99,7 +99,6 @@ impl<R: Files + Clock + AllocGlobal + Clone + Drop> Source<R> {
             → IsTrue (is_within self.old.preload loaded.summary.bytes)) }
         ensures remembers { IfOk result (λ loaded.
             MayRemember self.old.root.bytes.items loaded.summary loaded.world self.new.index) }
-        ensures young { OnOk result (self.old.is_young ≡ true → self.new.is_young ≡ false) }
     {
         match self.load_steady()? {
             Some(loaded) => Ok(loaded),
@@ -114,7 +113,6 @@ impl<R: Files + Clock + AllocGlobal + Clone + Drop> Source<R> {
         ensures preload { self.new.preload ≡ self.old.preload }
         ensures folder { IfOk result (λ loaded. loaded.summary.is_in_memory ≡ false) }
         ensures unread { OnOk result (self.new.index ≡ None) }
-        ensures young { OnOk result (self.old.is_young ≡ true → self.new.is_young ≡ false) }
     {
         let found = Index::of(&self.rt, self.root.as_str())?;
         let index = found.readable(&self.rt)?;
@@ -135,7 +133,6 @@ impl<R: Files + Clock + AllocGlobal + Clone + Drop> Source<R> {
             ≡ is_within self.old.preload loaded.summary.bytes) }
         ensures remembers { IfRead result (λ loaded.
             Remembers self.old.root.bytes.items loaded.summary loaded.world self.new.index) }
-        ensures young { IfRead result (λ _. self.old.is_young ≡ true → self.new.is_young ≡ false) }
     {
         if !self.is_due(is_forced)? {
             return Ok(None);
@@ -174,7 +171,6 @@ impl<R: Files + Clock + AllocGlobal + Clone + Drop> Source<R> {
             ≡ is_within self.old.preload loaded.summary.bytes) }
         ensures remembers { IfRead result (λ loaded.
             Remembers self.old.root.bytes.items loaded.summary loaded.world self.new.index) }
-        ensures young { IfRead result (λ _. self.old.is_young ≡ true → self.new.is_young ≡ false) }
     {
         for _ in 0..ATTEMPTS {
             if let Some(loaded) = self.load_once()? {
@@ -193,7 +189,6 @@ impl<R: Files + Clock + AllocGlobal + Clone + Drop> Source<R> {
             ≡ is_within self.old.preload loaded.summary.bytes) }
         ensures remembers { IfRead result (λ loaded.
             Remembers self.old.root.bytes.items loaded.summary loaded.world self.new.index) }
-        ensures young { IfRead result (λ _. self.old.is_young ≡ true → self.new.is_young ≡ false) }
     {
         let found = Index::of(&self.rt, self.root.as_str())?;
         let index = found.readable(&self.rt)?;
@@ -233,7 +228,6 @@ impl<R: Files + Clock + AllocGlobal + Clone + Drop> Source<R> {
         ensures bytes { IfRead result (λ loaded. loaded.summary.bytes ≡ bytes) }
         ensures remembers { IfRead result (λ loaded.
             Remembers self.old.root.bytes.items loaded.summary loaded.world self.new.index) }
-        ensures young { IfRead result (λ _. self.old.is_young ≡ true → self.new.is_young ≡ false) }
     {
         let contents = match read_all(&self.rt, &index) {
             Ok(contents) => contents,
@@ -265,7 +259,6 @@ impl<R: Files + Clock + AllocGlobal + Clone + Drop> Source<R> {
         ensures bytes { IfRead result (λ loaded. loaded.summary.bytes ≡ bytes) }
         ensures remembers { IfRead result (λ loaded.
             Remembers self.old.root.bytes.items loaded.summary loaded.world self.new.index) }
-        ensures young { IfRead result (λ _. self.old.is_young ≡ true → self.new.is_young ≡ false) }
     {
         let after = Index::of(&self.rt, self.root.as_str())?;
         if !found.is_same(&after) {
